@@ -1,0 +1,11 @@
+pub mod Digits
+pub mod Tables
+pub mod Masks
+pub mod Folds
+pub mod Shapes
+pub mod Numbers
+pub mod Signs
+pub mod Parity
+pub mod Moves
+pub mod Same
+pub mod Copies
