@@ -1,0 +1,10 @@
+use Rattle.std.proofs.Common.{◌∙◌}
+use Rattle.std.specs.Prelude.{int_rem}
+use Rattle.vec_arith.proofs.Modulo.{of_natural}
+use Rattle.vec_arith.proofs.Operations.{divided_unsigned}
+use Rattle.vec_arith.proofs.rem_u.Goals as goal
+
+pub returns-in-Some-Some : goal.returns-in-Some-Some
+returns-in-Some-Some c =
+    divided_unsigned int_rem c.args.left c.args.right _ _ _ _ _ _ c.known.ensures.value c.known-2.ensures.value c.in-Some-Some.is-0 c.in-Some-Some.is-1
+    c.width.ensures.value c.if-y-ne0.true (c.from_planes.ensures ∙ of_natural _ _)
