@@ -1,0 +1,9 @@
+pub mod Interval
+pub mod IntervalLaws
+pub mod Level
+pub mod Ends
+pub mod Planes
+pub mod DigitLemmas
+pub mod PlaneLemmas
+pub mod Wired
+pub mod Resolver
