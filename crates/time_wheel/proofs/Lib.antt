@@ -1,0 +1,14 @@
+pub mod JoinedLemmas
+pub mod StandLemmas
+pub mod PlaceLemmas
+pub mod SettleLemmas
+pub mod ShownLemmas
+pub mod TakeLemmas
+pub mod PutLemmas
+pub mod AdvanceLemmas
+pub mod CascadeLemmas
+pub mod NewLemmas
+pub mod PromoteLemmas
+pub mod KeptLemmas
+pub mod CopyLemmas
+pub mod EnterLemmas

@@ -1,0 +1,2 @@
+pub mod TimeWheel
+pub mod Queues
