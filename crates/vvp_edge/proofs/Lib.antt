@@ -1,0 +1,4 @@
+pub mod Told
+pub mod FilesLemmas
+pub mod Made
+pub mod ListingLemmas
