@@ -1,0 +1,19 @@
+//! The statements and tokens of a file of vvp assembly.
+//!
+//! `statements` cuts a file into its statements, and refuses it exactly at its first lexical fault. `tokens` gives
+//! the tokens of one of them, and `text_bytes` the bytes that a string stands for. Nothing is copied out of the
+//! file but a string's bytes: all else is a place in it.
+#![tactic(auto)]
+
+mod bytes;
+mod lex;
+mod scan;
+mod text;
+mod types;
+
+pub use lex::{part_of, statements, tokens};
+pub use text::{Bytes, text_bytes};
+pub use types::{FormFault, FormKind, LexFault, LexKind, Name, Spanned, Stmt, Token};
+
+#[cfg(test)]
+mod tests;
