@@ -1,0 +1,11 @@
+pub mod Tokens
+pub mod Table
+pub mod Numbers
+pub mod Ports
+pub mod Operands
+pub mod Choices
+pub mod Unsupported
+pub mod Checks
+pub mod Forms
+pub mod Reading
+pub mod Spells

@@ -1,0 +1,24 @@
+-- the words of statements that are known and not supported
+use Rattle.std.specs.Prelude.{ℕ, Bool, false, ◌||◌, List, [], ◌∷◌, nat_eq, codes}
+use Rattle.std.specs.List.{starts_with}
+use Rattle.std.specs.Str.{bytes_eq}
+
+abbrev pub is_one : List ℕ → List (List ℕ) → Bool
+is_one word [] = false
+is_one word (text ∷ texts) = bytes_eq word text || is_one word texts
+
+abbrev pub begins_with_one : List ℕ → List (List ℕ) → Bool
+begins_with_one word [] = false
+begins_with_one word (text ∷ texts) = starts_with nat_eq word text || begins_with_one word texts
+
+unfoldable pub words : List (List ℕ)
+words =
+    codes ".delay" ∷ codes ".var/real" ∷ codes ".var/str" ∷ codes ".var/2s" ∷ codes ".var/2u" ∷ codes ".net/real" ∷ codes ".array/real" ∷ codes ".array/str" ∷ codes ".array/2s" ∷ codes ".array/2u" ∷ codes ".array/port" ∷ []
+
+unfoldable pub beginnings : List (List ℕ)
+beginnings =
+    codes ".udp" ∷ codes ".dff" ∷ codes ".latch" ∷ codes ".ufunc" ∷ codes ".modpath" ∷ codes ".island" ∷ codes ".import" ∷ codes ".export" ∷ codes ".port" ∷ codes ".tran" ∷ codes ".cast" ∷ codes ".class" ∷ codes ".sfunc" ∷ codes ".substitute" ∷ codes ".abs" ∷ codes ".alias" ∷ []
+
+-- the word is listed, or begins as one that is
+unfoldable pub is_unsupported : List ℕ → Bool
+is_unsupported word = is_one word words || begins_with_one word beginnings

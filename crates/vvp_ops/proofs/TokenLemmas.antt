@@ -1,0 +1,81 @@
+use Rattle.std.proofs.Common.{◌≡◌, ℕ, suc, ◌+◌, ◌-◌, ◌*◌, ◌<◌, ◌≤◌, Bool, true, false, List, [], ◌∷◌, length, get_or, take, drop, min, cond, refl, sym, ap, ◌∙◌, arith, ◌⊎◌, inl, inr}
+use Rattle.std.specs.List.{prefix_len, AllPass}
+use Rattle.std.specs.Str.Parse.{digits_value, digits_value_after}
+use Rattle.std.specs.Char.{digit_value, is_ascii_digit}
+use Rattle.std.proofs.lemmas.Bool.{cases_lt}
+use Rattle.std.proofs.lemmas.Bool.Decides.{nat_tests}
+use Rattle.std.proofs.lemmas.List.{take_all, drop_all, drop_more, length-drop}
+use Rattle.std.proofs.lemmas.List.Elements.{All-nil, All-cons}
+
+range-empty : (xs : List ℕ) (from to : ℕ) → (length xs ≤ from) ⊎ (to ≤ from) → take (to - from) (drop from xs) ≡ []
+range-empty xs from to (inl past) =
+    ap (take (to - from)) (drop_all from xs past) ∙ take_all (to - from) [] (omega arith)
+range-empty xs from to (inr over) =
+    let none : to - from ≡ 0 = omega arith in rw none refl
+
+range-whole : (xs : List ℕ) (from to : ℕ) → length xs ≤ to → take (to - from) (drop from xs) ≡ drop from xs
+range-whole xs from to past = take_all _ _ (omega (arith, length-drop from xs))
+
+range-over : (xs : List ℕ) (from to : ℕ) → min (length xs) to < from → (length xs < from) ⊎ (from ≤ length xs) → take (to - from) (drop from xs) ≡ []
+range-over xs from to over (inl short) = range-empty xs from to (inl (omega arith))
+range-over xs from to over (inr long) = range-empty xs from to (inr (omega arith))
+
+range-inside : (xs : List ℕ) (from to : ℕ) → (length xs < to) ⊎ (to ≤ length xs) → take (min (length xs) to - from) (drop from xs) ≡ take (to - from) (drop from xs)
+range-inside xs from to (inl longer) =
+    range-whole xs from (min (length xs) to) (omega arith) ∙ sym (range-whole xs from to (omega arith))
+range-inside xs from to (inr shorter) =
+    let end : min (length xs) to ≡ to = omega arith in rw end refl
+
+range-cases : (xs : List ℕ) (from to low high : ℕ) → high ≡ min (length xs) to → low ≡ min high from → (high < from) ⊎ (from ≤ high) → take (high - low) (drop low xs) ≡ take (to - from) (drop from xs)
+range-cases xs from to low high high_is low_is (inl over) =
+    range-empty xs low high (inr (omega arith)) ∙ sym (range-over xs from to (omega arith) (cases_lt (length xs) from))
+range-cases xs from to low high high_is low_is (inr inside) =
+    let same : low ≡ from = omega arith in
+    ap (λ n. take (high - n) (drop n xs)) same ∙ ap (λ n. take (n - from) (drop from xs)) high_is ∙ range-inside xs from to (cases_lt (length xs) to)
+
+-- a range is read the same where its ends are brought into the list
+pub range-clamped : (xs : List ℕ) (from to low high : ℕ) → high ≡ min (length xs) to → low ≡ min high from → take (high - low) (drop low xs) ≡ take (to - from) (drop from xs)
+range-clamped xs from to low high high_is low_is =
+    range-cases xs from to low high high_is low_is (cases_lt high from)
+
+-- the digits at the front are digits
+pub front-passes : (p : ℕ → Bool) (xs : List ℕ) → AllPass p (take (prefix_len p xs) xs)
+front-passes p [] = All-nil (λ y. p y ≡ true)
+front-passes p (x ∷ xs) = by (p x) refl (front-passes p xs)
+  where
+    by : (t : Bool) → p x ≡ t → AllPass p (take (prefix_len p xs) xs) → AllPass p (take (cond t (1 + prefix_len p xs) 0) (x ∷ xs))
+    by true e rest =
+        let one : 1 + prefix_len p xs ≡ suc (prefix_len p xs) = omega arith in
+        rw one (All-cons (λ y. p y ≡ true) x (take (prefix_len p xs) xs) e rest)
+    by false e rest = All-nil (λ y. p y ≡ true)
+
+pub digit_value-digit : (b : ℕ) → is_ascii_digit b ≡ true → digit_value b ≡ b - 48
+digit_value-digit b digit = grind (arith, nat_tests)
+
+pub saturated_sum : (top a b : ℕ) → min (min a top + b) top ≡ min (a + b) top
+saturated_sum top a b = omega arith
+
+saturated_digit : (top n d : ℕ) → min (min n top * 10 + d) top ≡ min (n * 10 + d) top
+saturated_digit top n d = omega arith
+
+-- a number that counts as `top` once it is over it
+saturated : (top n : ℕ) (ds : List ℕ) → min (digits_value_after 10 (min n top) ds) top ≡ min (digits_value_after 10 n ds) top
+saturated top n [] = omega arith
+saturated top n (d ∷ ds) =
+    let short = saturated top (min n top * 10 + digit_value d) ds in
+    let long = saturated top (n * 10 + digit_value d) ds in
+    sym short ∙ ap (λ m. min (digits_value_after 10 m ds) top) (saturated_digit top n (digit_value d)) ∙ long
+
+-- one digit more
+pub decimal-more : (top : ℕ) (ds : List ℕ) (i value next : ℕ) → i < length ds → next ≡ min (value * 10 + digit_value (get_or ds i 0)) top → min (digits_value_after 10 value (drop i ds)) top ≡ min (digits_value 10 ds) top → min (digits_value_after 10 next (drop (i + 1) ds)) top ≡ min (digits_value 10 ds) top
+decimal-more top ds i value next lt is so_far =
+    ap (λ n. min (digits_value_after 10 n (drop (i + 1) ds)) top) is ∙ saturated top _ (drop (i + 1) ds) ∙ sym (ap (λ part. min (digits_value_after 10 value part) top) (drop_more ds i 0 lt)) ∙ so_far
+
+-- all digits
+pub decimal-all : (top : ℕ) (ds : List ℕ) (i value : ℕ) → length ds ≤ i → value ≤ top → min (digits_value_after 10 value (drop i ds)) top ≡ min (digits_value 10 ds) top → value ≡ min (digits_value 10 ds) top
+decimal-all top ds i value past fits so_far =
+    let end : min value top ≡ min (digits_value 10 ds) top = ap (λ part. min (digits_value_after 10 value part) top) (sym (drop_all i ds past)) ∙ so_far in
+    omega arith
+
+pub min-fits : (top n next : ℕ) → next ≡ min n top → next ≤ top
+min-fits top n next is = omega arith

@@ -1,0 +1,6 @@
+use Rattle.vvp_ops.proofs.CallLemmas.{texts-after}
+use Rattle.vvp_ops.proofs.calls.function_of.Goals as goal
+
+pub arguments-requires-clause-texts : goal.arguments-requires-clause-texts
+arguments-requires-clause-texts c =
+    texts-after c.args.src.now c.args.tokens.now _ 4 c.tokens_after.ensures c.requires.texts

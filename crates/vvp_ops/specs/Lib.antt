@@ -1,0 +1,10 @@
+pub mod Tokens
+pub mod Table
+pub mod Operands
+pub mod Arguments
+pub mod Calls
+pub mod Unsupported
+pub mod Grammar
+pub mod Statement
+pub mod Spells
+pub mod Ranges
