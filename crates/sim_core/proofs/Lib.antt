@@ -1,0 +1,11 @@
+pub mod Keys
+pub mod Keyed
+pub mod Adds
+pub mod Effects
+pub mod Printing
+pub mod Settling
+pub mod Runs
+pub mod Standing
+pub mod Steps
+pub mod Starts
+pub mod Shown

@@ -1,0 +1,35 @@
+ghost use Rattle.std.specs.Prelude.{◌≡◌, ◌<◌, ◌+◌, ◌*◌, ◌^◌, IfOk, OnOk, OnErr};
+ghost use Rattle.sim_core.specs.Engine.{Fails, Follows};
+ghost use Rattle.sim_core.specs.Machine.{run_from};
+
+use crate::ending::Ending;
+use crate::engine::Engine;
+use event_pool::Agenda;
+use std::alloc::AllocError;
+
+/// Runs an engine for at most `budget` steps, and answers its ending, or none where the budget is spent. After that many
+/// steps without an ending a run with nothing left to do is idle still.
+///
+/// # Errors
+///
+/// `AllocError` where memory is wanting. The output so far then begins that of the whole run.
+pub fn run<A: Agenda + Drop>(
+    engine: &mut Engine<A>,
+    budget: u64,
+) -> Result<Option<Ending>, AllocError>
+    requires going { engine.old.machine.ending ≡ None }
+    requires steps { engine.old.machine.steps + budget < 3 * 2 ^ 62 }
+    ensures run { OnOk result (Follows (run_from engine.old.program budget) engine.old engine.new) }
+    ensures err { OnErr result (Fails (run_from engine.old.program budget) engine.old engine.new) }
+    ensures answer { IfOk result (λ ending. ending ≡ engine.new.machine.ending) }
+{
+    for _done in 0..budget {
+        if let Some(ending) = engine.step()? {
+            return Ok(Some(ending));
+        }
+    }
+    if engine.idle() {
+        return engine.step();
+    }
+    Ok(None)
+}
