@@ -1,28 +1,34 @@
 //! Runs a file. The words are those of the command line, the files those of the system.
 #![tactic(auto)]
 
+ghost use Rattle.std.specs.IoError.{error_kind};
 ghost use Rattle.std.specs.Prelude.{◌≡◌};
-ghost use Rattle.vvp_top.specs.Whole.{status_of};
+ghost use Rattle.vvp_top.specs.Ends.{Says};
+ghost use Rattle.vvp_top.specs.Whole.{line_of, status_of};
 
+use std::io::ErrorKind;
 use std::process::ExitCode;
 use std::{env, io};
-use vvp_edge::{DirStore, OutSink, Sink, send_all};
+use vvp_edge::{DirStore, OutSink, Sink};
 use vvp_top::{Outcome, vvp_main};
 
 // Why there are no words: memory ran out, or they were refused, as a word that isn't UTF-8.
-fn without_words(error: &io::Error) -> Outcome {
-    if error.kind() == io::ErrorKind::OutOfMemory {
-        Outcome::Memory
-    } else {
-        Outcome::BadWords
+fn without_words(error: &io::Error) -> Outcome
+    ensures memory { error_kind error.now ≡ ErrorKind.OutOfMemory → result ≡ Outcome.Memory }
+    ensures refused { (error_kind error.now ≡ ErrorKind.OutOfMemory → ⊥) → result ≡ Outcome.BadWords }
+{
+    match error.kind() {
+        ErrorKind::OutOfMemory => Outcome::Memory,
+        _ => Outcome::BadWords,
     }
 }
 
 // Says the outcome's line, and answers its status.
 fn end_with<M: Sink>(outcome: Outcome, errs: &mut M) -> u8
-    ensures { result ≡ status_of outcome }
+    ensures status { result ≡ status_of outcome }
+    ensures said { Says (line_of outcome) (M.held errs.old) (M.held errs.new) (M.faults errs.old) (M.faults errs.new) }
 {
-    let _said = send_all(errs, outcome.message());
+    outcome.say(errs);
     outcome.status()
 }
 

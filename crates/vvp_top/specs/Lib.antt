@@ -1,7 +1,8 @@
-pub mod Pieces
-pub mod Rows
+pub mod Stated
+pub mod Unread
 pub mod Views
-pub mod FirstFile
-pub mod IsFirstFile
+pub mod LinkRules
+pub mod SecondFile
+pub mod Declares
 pub mod Whole
 pub mod Ends

@@ -1,44 +1,49 @@
--- Pieces, statements and slots as the code keeps them: a word of the file is a part of it that is lent.
-use Rattle.std.specs.Prelude.{◌≡◌, List, map, Result, Ok, Err, Contains, Option, Some, None}
+-- Statements as the code keeps them: a symbol is a part of the file that is lent.
+use Rattle.std.specs.Prelude.{◌≡◌, ℕ, List, map, Result, Ok, Err, Option, Some, None}
 use Rattle.std.specs.Option.{option_map}
-use Rattle.vvp_lex.specs.declared.types.Stmt.{Stmt}
-use Rattle.vvp_lex.specs.Statement.{statements_of}
-use Rattle.std.specs.Prelude.{ℕ}
-use Rattle.vvp_top.specs.Pieces as spec
-use Rattle.vvp_top.specs.Rows as row
-use Rattle.vvp_top.specs.declared.piece.Piece as piece
-use Rattle.vvp_top.specs.declared.piece.Piece.TheVariants.{Word, Number, Text, Mark, Vector}
-use Rattle.vvp_top.specs.declared.piece.Said as said
-use Rattle.vvp_top.specs.declared.rows.Slot as slot
-use Rattle.vvp_top.specs.declared.rows.Slot.TheVariants as slots
+use Rattle.std.specs.Borrow.{Bor}
+use Rattle.vvp_top.specs.declared.stated.Action.{Action}
+use Rattle.vvp_top.specs.declared.stated.Action.TheVariants as action
+use Rattle.vvp_top.specs.declared.stated.Says.{Says}
+use Rattle.vvp_top.specs.declared.stated.Says.TheVariants as says
+use Rattle.vvp_top.specs.declared.stated.Stated.{Stated}
 use Rattle.vvp_top.specs.declared.unread.Unread.{Unread}
 use Rattle.vvp_top.specs.declared.unread.Unread.TheVariants.{Unsupported, Memory}
+use Rattle.vvp_top.specs.Stated.{Statement}
 
-abbrev pub piece_view : piece.Piece → spec.Piece
-piece_view (Word bytes) = spec.Word bytes.now
-piece_view (Number n) = spec.Number n
-piece_view (Text bytes) = spec.Text bytes
-piece_view (Mark b) = spec.Mark b
-piece_view Vector = spec.Vector
+-- a part of the file that is lent
+abbrev pub Lent : Type 0
+Lent = Bor (List ℕ)
 
-abbrev pub pieces_view : List piece.Piece → List spec.Piece
-pieces_view pieces = map piece_view pieces
+abbrev pub label_view : Option Lent → Option (List ℕ)
+label_view label = option_map (λ bytes. bytes.now) label
 
-abbrev pub said_view : said.Said → spec.Said
-said_view s = record { label = option_map (λ label. label.now) s.label; pieces = pieces_view s.pieces.items }
+abbrev pub action_view : Action Lent → Action (List ℕ)
+action_view (action.Push low high width) = action.Push low high width
+action_view (action.Load variable) = action.Load variable.now
+action_view (action.Store variable width) = action.Store variable.now width
+action_view (action.Jump target) = action.Jump target.now
+action_view (action.Delay ticks) = action.Delay ticks
+action_view (action.Show text) = action.Show text
+action_view (action.ShowBits variable) = action.ShowBits variable.now
+action_view action.Finish = action.Finish
+action_view action.End = action.End
 
-abbrev pub slot_view : slot.Slot → row.Slot
-slot_view (slots.Word bytes) = row.word bytes.now
-slot_view slots.Call = row.call
-slot_view slots.Number = row.number
-slot_view (slots.AtMost most) = row.at_most most
-slot_view slots.Text = row.text
-slot_view (slots.Quoted bytes) = row.quoted bytes.now
-slot_view slots.Plain = row.plain
-slot_view (slots.Mark b) = row.mark b
+abbrev pub says_view : Says Lent → Says (List ℕ)
+says_view says.Nothing = says.Nothing
+says_view (says.Scope parent) = says.Scope (label_view parent)
+says_view (says.CurrentScope scope) = says.CurrentScope scope.now
+says_view says.TimeScale = says.TimeScale
+says_view (says.Variable width) = says.Variable width
+says_view (says.Thread code start) = says.Thread code.now start
+says_view says.CodeLabel = says.CodeLabel
+says_view (says.Opcode action) = says.Opcode (action_view action)
 
-abbrev pub row_view : List slot.Slot → List row.Slot
-row_view slots = map slot_view slots
+abbrev pub statement_view : Stated Lent → Statement
+statement_view statement = record { label = label_view statement.label; says = says_view statement.says }
+
+abbrev pub statements_view : List (Stated Lent) → List Statement
+statements_view statements = map statement_view statements
 
 -- nothing was read; want of memory says nothing
 abbrev pub IsUnread : {Y : Type 0} → Unread → Option Y → Type 0
@@ -49,7 +54,3 @@ IsUnread Memory read = Unit {0}
 abbrev pub Reads : {X Y : Type 0} → (X → Y) → Result X Unread → Option Y → Type 0
 Reads view (Ok x) read = read ≡ Some (view x)
 Reads view (Err unread) read = IsUnread unread read
-
--- each of these statements is one of the file's
-pub record AreOf (file : List ℕ) (statements : List Stmt) : Type 0 where
-  pub each : (statement : Stmt) → Contains statements statement → Contains (statements_of file) statement

@@ -1,19 +1,22 @@
 -- What the program does, told by its words and its files alone.
-use Rattle.std.specs.Prelude.{ℕ, Bool, true, false, if◌then◌else◌, nat_lt, nat_le, nat_eq, ◌==◌, ◌&&◌, unwrap_or, List, [], ◌∷◌, length, codes}
+use Rattle.std.specs.Prelude.{ℕ, Bool, true, false, if◌then◌else◌, nat_lt, nat_le, nat_eq, ◌==◌, ◌&&◌, unwrap_or, List, [], ◌∷◌, ◌++◌, length, codes, decimal}
 use Rattle.std.specs.List.{starts_with}
 use Rattle.std.specs.Map.{lookup}
 use Rattle.std.specs.FinMap.{get}
 use Rattle.std.specs.declared.option.Option.{Option}
 use Rattle.std.specs.declared.option.Option.TheVariants.{Some, None}
-use Rattle.sim_core.specs.Early.{early_output, early_ending}
-use Rattle.sim_core.specs.declared.early.Early.{Early}
-use Rattle.sim_core.specs.declared.early.EarlyEnding.{EarlyEnding}
-use Rattle.sim_core.specs.declared.early.EarlyEnding.TheVariants as run
+use Rattle.sim_core.specs.declared.ending.Ending.{Ending}
+use Rattle.sim_core.specs.declared.ending.Ending.TheVariants as run
+use Rattle.sim_core.specs.declared.opcodes.TrapKind.{TrapKind}
+use Rattle.sim_core.specs.declared.opcodes.TrapKind.TheVariants as trap
+use Rattle.sim_core.specs.declared.program.EarlyProgram.{EarlyProgram}
+use Rattle.sim_core.specs.Machine.{Machine, run_from}
+use Rattle.sim_core.specs.Start.{start_of}
 use Rattle.vvp_edge.specs.Files.{Files}
 use Rattle.vvp_edge.specs.declared.store.TheConstants.{MOST_SOURCE}
-use Rattle.vvp_top.specs.FirstFile.{program_of}
+use Rattle.vvp_top.specs.SecondFile.{early_program_of}
 use Rattle.vvp_top.specs.declared.outcome.Outcome.{Outcome}
-use Rattle.vvp_top.specs.declared.outcome.Outcome.TheVariants.{Finish, Idle, BadWords, Unsupported, TooLarge, StoreFault, OutputFault, Memory, NoFile}
+use Rattle.vvp_top.specs.declared.outcome.Outcome.TheVariants.{Finish, Idle, BadWords, Unsupported, TooLarge, Spent, Trap, StoreFault, OutputFault, Memory, NoFile}
 
 -- the status of the program
 abbrev pub status_of : Outcome → ℕ
@@ -22,22 +25,43 @@ status_of Idle = 0
 status_of BadWords = 1
 status_of Unsupported = 2
 status_of TooLarge = 2
+status_of Spent = 3
+status_of (Trap kind address) = 4
 status_of StoreFault = 5
 status_of OutputFault = 6
 status_of Memory = 7
 status_of NoFile = 8
 
+-- the name of a kind of trap
+abbrev pub trap_name : TrapKind → List ℕ
+trap_name trap.StackUnder = codes "StackUnder"
+trap_name trap.StackOver = codes "StackOver"
+trap_name trap.Width = codes "Width"
+trap_name trap.OffEnd = codes "OffEnd"
+trap_name trap.TimeOver = codes "TimeOver"
+
+-- what it says of itself, where it says something; of a trap, what comes before the kind
+abbrev pub fixed_line : Outcome → List ℕ
+fixed_line Finish = []
+fixed_line Idle = []
+fixed_line BadWords = codes "vvp: bad words\n"
+fixed_line Unsupported = codes "vvp: line 0: unsupported statement\n"
+fixed_line TooLarge = codes "vvp: line 0: file too large\n"
+fixed_line Spent = codes "vvp: budget spent\n"
+fixed_line (Trap kind address) = codes "vvp: trap "
+fixed_line StoreFault = codes "vvp: store fault\n"
+fixed_line OutputFault = codes "vvp: output fault\n"
+fixed_line Memory = codes "vvp: out of memory\n"
+fixed_line NoFile = codes "vvp: no such file\n"
+
+-- the kind and the address of a trap, and the line's end
+abbrev pub trap_tail : Outcome → List ℕ
+trap_tail (Trap kind address) = trap_name kind ++ (codes " at " ++ (decimal address ++ codes "\n"))
+trap_tail _ = []
+
 -- the line that it says of itself, where it says one
-abbrev pub message_of : Outcome → List ℕ
-message_of Finish = []
-message_of Idle = []
-message_of BadWords = codes "vvp: bad words\n"
-message_of Unsupported = codes "vvp: line 0: unsupported statement\n"
-message_of TooLarge = codes "vvp: line 0: file too large\n"
-message_of StoreFault = codes "vvp: store fault\n"
-message_of OutputFault = codes "vvp: output fault\n"
-message_of Memory = codes "vvp: out of memory\n"
-message_of NoFile = codes "vvp: no such file\n"
+abbrev pub line_of : Outcome → List ℕ
+line_of outcome = fixed_line outcome ++ trap_tail outcome
 
 -- a fault, or want of memory: it may come in the place of every other outcome
 abbrev pub yields : Outcome → Bool
@@ -46,6 +70,8 @@ yields Idle = false
 yields BadWords = false
 yields Unsupported = false
 yields TooLarge = false
+yields Spent = false
+yields (Trap kind address) = false
 yields StoreFault = true
 yields OutputFault = true
 yields Memory = true
@@ -65,18 +91,32 @@ pub record Whole : Type 0 where
 abbrev pub silent : Outcome → Whole
 silent ending = record { ending = ending; output = [] }
 
-abbrev pub ended : EarlyEnding → Outcome
-ended run.Finish = Finish
-ended run.Idle = Idle
+-- how a run ended; without an ending its budget is spent
+abbrev pub ended : Option Ending → Outcome
+ended None = Spent
+ended (Some run.Finish) = Finish
+ended (Some run.Idle) = Idle
+ended (Some (run.Trap kind address)) = Trap kind address
 
--- the run of a program, where the file says one
-abbrev pub run_of : Option (List Early) → Whole
-run_of None = silent Unsupported
-run_of (Some code) = record { ending = ended (early_ending code); output = early_output code }
+-- the most steps that a run does
+abbrev pub budget : ℕ
+budget = 10000000
+
+abbrev pub whole_of_machine : Machine → Whole
+whole_of_machine machine = record { ending = ended machine.ending; output = machine.tasks.out }
+
+-- the run of a program
+unfoldable pub run_of : EarlyProgram → Whole
+run_of program = whole_of_machine (run_from program budget (start_of program))
+
+-- the run of the program that a file says, if it says one
+abbrev pub whole_of_program : Option EarlyProgram → Whole
+whole_of_program None = silent Unsupported
+whole_of_program (Some program) = run_of program
 
 -- for a source of these bytes
 abbrev pub whole_of_source : List ℕ → Whole
-whole_of_source bytes = if nat_lt MOST_SOURCE (length bytes) then silent TooLarge else run_of (program_of bytes)
+whole_of_source bytes = if nat_lt MOST_SOURCE (length bytes) then silent TooLarge else whole_of_program (early_program_of bytes)
 
 -- for the bytes that stand under a name, if any do
 abbrev pub whole_of_file : Option (List ℕ) → Whole
@@ -97,11 +137,11 @@ may_come_anytime status = nat_le 5 status && nat_le status 7
 
 abbrev pub own_messages : List (ℕ × List ℕ)
 own_messages =
-    (1, message_of BadWords)
-    ∷ (5, message_of StoreFault)
-    ∷ (6, message_of OutputFault)
-    ∷ (7, message_of Memory)
-    ∷ (8, message_of NoFile)
+    (1, line_of BadWords)
+    ∷ (5, line_of StoreFault)
+    ∷ (6, line_of OutputFault)
+    ∷ (7, line_of Memory)
+    ∷ (8, line_of NoFile)
     ∷ []
 
 -- what is said with a status that says all: of bad words, of a missing file, of a fault or of want of memory
@@ -110,4 +150,4 @@ own_message status = lookup (λ s. s == status) own_messages
 
 -- what is said with a status, where this is what words and files say
 abbrev pub message_at : ℕ → Whole → List ℕ
-message_at status whole = unwrap_or (own_message status) (message_of whole.ending)
+message_at status whole = unwrap_or (own_message status) (line_of whole.ending)

@@ -1,254 +1,245 @@
-//! The program that a file says: one module with one thread that shows texts.
+//! The program that a file says.
 
-ghost use Rattle.std.specs.Prelude.{◌≡◌, ◌≤◌, ◌<◌, ◌-◌, ◌^◌, [], Contains, IfOk, length, slice_get, true};
-ghost use Rattle.vvp_top.specs.FirstFile.{bytes_shown, code_at, counted, current_at, is_end, is_ignored, is_thread, module_at, next, none_left, opcode_of, program_at, program_of, start_at, timescale_at, whole_code};
-ghost use Rattle.vvp_top.specs.IsFirstFile.{FirstFileLaw};
-ghost use Rattle.vvp_top.specs.Views.{AreOf, Reads, pieces_view, said_view};
+ghost use Rattle.std.specs.List.{cons_option};
+ghost use Rattle.std.specs.Prelude.{[], ◌≡◌, ◌≤◌, ◌^◌, ◌++◌, List, All, Contains, IfOk, OnOk, Some, None, ◌&&◌, length, if◌then◌else◌};
+ghost use Rattle.sim_core.specs.Engine.{IsRunnable};
+ghost use Rattle.vvp_lex.specs.Statement.{statements_of};
+ghost use Rattle.vvp_top.specs.declared.link.TheConstants.{MOST_OPCODES};
+ghost use Rattle.vvp_top.specs.Declares.{Declares, Tests, code_where, keep_back, keep_current, keep_starts, keeps_code, keeps_start, linked_where};
+ghost use Rattle.vvp_top.specs.SecondFile.{all_said, early_program_of, is_same_start, linked_program, opcode_said, start_said, starts_at, starts_of, widths_of};
+ghost use Rattle.vvp_top.specs.Stated.{Statement, is_width};
+ghost use Rattle.vvp_top.specs.Views.{Reads, action_view, says_view, statements_view};
+ghost use Rattle.vvp_forms.specs.declared.form.StartKind.TheVariants.{Init, Push, Plain};
 
-use crate::piece::{Piece, Said, read_said};
-use crate::rows::{
-    is_current, is_display, is_end, is_finish, is_ignored_row, is_module, is_thread_row,
-    is_timescale,
-};
+use crate::link::Declared;
+use crate::stated::{Action, Says, Stated, read_statement};
 use crate::unread::Unread;
-use sim_core::Early;
+use four_state::{Vec4, Widths};
+use sim_core::{EarlyCode, EarlyOp, EarlyProgram, Places};
 use std::alloc::{AllocError, Global};
-use vvp_lex::{Bytes, LexFault, Stmt, statements};
+use vvp_forms::StartKind;
+use vvp_lex::{Stmt, statements};
 
-/// The most opcodes that a program may have.
-pub(crate) const MOST_OPCODES: usize = 1_048_576;
-
-/// Whether a statement says nothing of the run.
-fn is_ignored(said: &Said<'_>) -> bool
-    ensures { result ≡ is_ignored (said_view said.now) }
+/// What the statements of a file declare. They are unsupported where one breaks a rule that looks back.
+fn declarations<'a>(alloc: Global, statements: &[Stated<&'a [u8]>]) -> Result<Declared<'a>, Unread>
+    ensures declares { IfOk result (Declares (statements_view statements.now)) }
+    ensures tested { Tests result (keep_back [] (statements_view statements.now)) }
+    ensures few { IfOk result (λ declared. declared.opcodes ≤ MOST_OPCODES) }
 {
-    said.label.is_none() && is_ignored_row(&said.pieces)
+    let mut declared = Declared::new(alloc);
+    for statement in statements {
+        declared.declare(statement)?;
+    }
+    Ok(declared)
 }
 
-/// The first of these statements of the file that isn't ignored, and those after it.
-fn next<'a, 's>(
-    alloc: Global,
-    src: &'a [u8],
-    statements: &'s [Stmt],
-) -> Result<(Said<'a>, &'s [Stmt]), Unread>
-    requires small { length src.now ≤ 2 ^ 26 }
-    requires given { AreOf src.now statements.now }
-    ensures read { Reads (λ r. (said_view r.0, counted src.now r.1.now)) result (next (counted src.now statements.now)) }
-    ensures rest { IfOk result (λ r. AreOf src.now r.1.now) }
-    ensures shorter { IfOk result (λ r. length r.1.now < length statements.now) }
+/// The widths of the variables, in file order.
+fn widths_of(alloc: Global, statements: &[Stated<&[u8]>]) -> Result<Widths, AllocError>
+    ensures { IfOk result (λ widths. widths ≡ widths_of (statements_view statements.now)) }
 {
-    for (i, statement) in statements.iter().enumerate() {
-        let said = read_said(alloc, src, statement)?;
-        if !is_ignored(&said) {
-            return Ok((said, &statements[i + 1..]));
+    let mut widths = Widths::new(alloc);
+    for statement in statements {
+        if let Says::Variable { width } = &statement.says {
+            widths.push(*width)?;
         }
     }
-    Err(Unread::Unsupported)
+    Ok(widths)
 }
 
-/// A module's scope: its label, and the statements after it.
-#[tactic(auto, unfolding(crate::specs::FirstFile::module_at))]
-fn module<'a, 's>(
-    alloc: Global,
-    src: &'a [u8],
-    statements: &'s [Stmt],
-) -> Result<(&'a [u8], &'s [Stmt]), Unread>
-    requires small { length src.now ≤ 2 ^ 26 }
-    requires given { AreOf src.now statements.now }
-    ensures read { Reads (λ r. (r.0.now, counted src.now r.1.now)) result (module_at (counted src.now statements.now)) }
-    ensures rest { IfOk result (λ r. AreOf src.now r.1.now) }
+/// A width of an opcode, 1 to 128.
+fn opcode_width(width: u64) -> Result<u8, Unread>
+    ensures { Reads (λ width. width) result (if is_width width then Some width else None) }
 {
-    let (said, rest) = next(alloc, src, statements)?;
-    match said.label {
-        Some(label) if is_module(&said.pieces) => Ok((label, rest)),
-        _ => Err(Unread::Unsupported),
-    }
-}
-
-/// The module's time scale: the statements after it.
-#[tactic(auto, unfolding(crate::specs::FirstFile::timescale_at))]
-fn timescale<'s>(alloc: Global, src: &[u8], statements: &'s [Stmt]) -> Result<&'s [Stmt], Unread>
-    requires small { length src.now ≤ 2 ^ 26 }
-    requires given { AreOf src.now statements.now }
-    ensures read { Reads (λ r. counted src.now r.now) result (timescale_at (counted src.now statements.now)) }
-    ensures rest { IfOk result (λ r. AreOf src.now r.now) }
-{
-    let (said, rest) = next(alloc, src, statements)?;
-    if said.label.is_none() && is_timescale(&said.pieces) {
-        Ok(rest)
+    if 1 <= width && width <= 128 {
+        Ok(width as u8)
     } else {
         Err(Unread::Unsupported)
     }
 }
 
-/// The module's scope becomes current: the statements after that.
-#[tactic(auto, unfolding(crate::specs::FirstFile::current_at))]
-fn current<'s>(
-    alloc: Global,
-    src: &[u8],
-    statements: &'s [Stmt],
-    module: &[u8],
-) -> Result<&'s [Stmt], Unread>
-    requires small { length src.now ≤ 2 ^ 26 }
-    requires given { AreOf src.now statements.now }
-    ensures read { Reads (λ r. counted src.now r.now) result (current_at module.now (counted src.now statements.now)) }
-    ensures rest { IfOk result (λ r. AreOf src.now r.now) }
+/// An opcode, with its symbols as numbers of variables and addresses of code.
+fn linked(alloc: Global, action: &Action<&[u8]>, declared: &Declared<'_>) -> Result<EarlyOp, Unread>
+    ensures { (all : List Statement) → Declares all declared.now → Reads (λ op. op) result (linked_where all (action_view action.now)) }
 {
-    let (said, rest) = next(alloc, src, statements)?;
-    if said.label.is_none() && is_current(module, &said.pieces) {
-        Ok(rest)
-    } else {
-        Err(Unread::Unsupported)
-    }
-}
-
-/// A code label alone, other than the module's, and the statements after it.
-#[tactic(auto, unfolding(crate::specs::FirstFile::start_at))]
-fn start<'a, 's>(
-    alloc: Global,
-    src: &'a [u8],
-    statements: &'s [Stmt],
-    module: &[u8],
-) -> Result<(&'a [u8], &'s [Stmt]), Unread>
-    requires small { length src.now ≤ 2 ^ 26 }
-    requires given { AreOf src.now statements.now }
-    ensures read { Reads (λ r. (r.0.now, counted src.now r.1.now)) result (start_at module.now (counted src.now statements.now)) }
-    ensures rest { IfOk result (λ r. AreOf src.now r.1.now) }
-{
-    let (said, rest) = next(alloc, src, statements)?;
-    match said.label {
-        Some(label) if said.pieces.is_empty() && label != module => Ok((label, rest)),
-        _ => Err(Unread::Unsupported),
-    }
-}
-
-/// The text that a call of `$display` shows.
-fn shown(alloc: Global, pieces: &[Piece<'_>]) -> Result<Bytes, AllocError>
-    ensures { IfOk result (λ bytes. bytes ≡ bytes_shown (slice_get (pieces_view pieces.now) 5)) }
-{
-    match pieces.get(5) {
-        Some(Piece::Text(bytes)) => bytes.copy(alloc),
-        Some(Piece::Word(_) | Piece::Number(_) | Piece::Mark(_) | Piece::Vector) | None => {
-            Ok(Bytes::new(alloc))
+    match action {
+        Action::Push { low, high, width } => {
+            let width = opcode_width(*width)?;
+            let value = Vec4::from_planes(u128::from(*low), u128::from(*high), width);
+            Ok(EarlyOp::Push(value))
         }
+        Action::Load { variable } => Ok(EarlyOp::Load(declared.variable(variable)?)),
+        Action::Store { variable, width } => Ok(EarlyOp::Store {
+            var: declared.variable(variable)?,
+            width: opcode_width(*width)?,
+        }),
+        Action::Jump { target } => Ok(EarlyOp::Jump(declared.code(target)?)),
+        Action::Delay { ticks } => Ok(EarlyOp::Delay(*ticks)),
+        Action::Show { text } => Ok(EarlyOp::Show(text.copy(alloc)?)),
+        Action::ShowBits { variable } => Ok(EarlyOp::ShowBits(declared.variable(variable)?)),
+        Action::Finish => Ok(EarlyOp::Finish),
+        Action::End => Ok(EarlyOp::End),
     }
 }
 
-/// The opcode that a statement is.
-#[tactic(auto, unfolding(crate::specs::FirstFile::opcode_of))]
-fn opcode(alloc: Global, pieces: &[Piece<'_>]) -> Result<Early, Unread>
-    ensures { Reads (λ opcode. opcode) result (opcode_of (pieces_view pieces.now)) }
+/// Puts an opcode, where the statement is one, behind those that are there.
+fn push_opcode(
+    alloc: Global,
+    code: &mut Vec<EarlyOp>,
+    says: &Says<&[u8]>,
+    declared: &Declared<'_>,
+) -> Result<(), Unread>
+    ensures pushed { (all : List Statement) → Declares all declared.now →
+        OnOk result (code.new.items ≡ code.old.items ++ cons_option (opcode_said all (says_view says.now)) []) }
+    ensures tested { (all : List Statement) → Declares all declared.now → Tests result (keeps_code all (says_view says.now)) }
 {
-    if is_end(pieces) {
-        return Ok(Early::End);
+    if let Says::Opcode { action } = says {
+        let op = linked(alloc, action, declared)?;
+        code.push(op)?;
+        return Ok(());
     }
-    if is_finish(pieces) {
-        return Ok(Early::Finish);
-    }
-    if is_display(pieces) {
-        let text = shown(alloc, pieces)?;
-        return Ok(Early::Show(text));
-    }
-    Err(Unread::Unsupported)
+    Ok(())
 }
 
-/// Whether a statement is the thread that starts at this label.
-fn is_thread(start: &[u8], said: &Said<'_>) -> bool
-    ensures { result ≡ is_thread start.now (said_view said.now) }
-{
-    said.label.is_none() && is_thread_row(start, &said.pieces)
-}
-
-/// Refuses a statement that isn't ignored.
-fn no_more(alloc: Global, src: &[u8], statements: &[Stmt]) -> Result<(), Unread>
-    requires small { length src.now ≤ 2 ^ 26 }
-    requires given { AreOf src.now statements.now }
-    ensures { Reads (λ _. []) result (none_left (counted src.now statements.now)) }
-{
-    match next(alloc, src, statements) {
-        Ok(_) => Err(Unread::Unsupported),
-        Err(Unread::Unsupported) => Ok(()),
-        Err(Unread::Memory) => Err(Unread::Memory),
-    }
-}
-
-/// The opcodes up to the thread that starts at this label, the last statement.
-fn code(alloc: Global, src: &[u8], statements: &[Stmt], start: &[u8]) -> Result<Vec<Early>, Unread>
-    requires small { length src.now ≤ 2 ^ 26 }
-    requires given { AreOf src.now statements.now }
-    ensures { Reads (λ code. code.items) result (code_at start.now (counted src.now statements.now)) }
+/// The opcodes, in file order.
+fn code_of(
+    alloc: Global,
+    statements: &[Stated<&[u8]>],
+    declared: &Declared<'_>,
+) -> Result<EarlyCode, Unread>
+    requires { Declares (statements_view statements.now) declared.now }
+    ensures { Reads (λ code. code) result (code_where (statements_view statements.now)) }
 {
     let mut code = Vec::new(alloc);
-    let mut left = statements;
-    loop {
-        let (said, rest) = next(alloc, src, left)?;
-        if is_thread(start, &said) {
-            no_more(alloc, src, rest)?;
-            return Ok(code);
+    for statement in statements {
+        push_opcode(alloc, &mut code, &statement.says, declared)?;
+    }
+    Ok(EarlyCode::from_vec(code))
+}
+
+fn is_same_start(start: StartKind, kind: StartKind) -> bool
+    ensures { result ≡ is_same_start start kind }
+{
+    match (start, kind) {
+        (StartKind::Init, StartKind::Init)
+        | (StartKind::Push, StartKind::Push)
+        | (StartKind::Plain, StartKind::Plain) => true,
+        _ => false,
+    }
+}
+
+/// Puts the address at which a thread starts, where the statement is one of that kind, behind those that are there.
+fn push_start(
+    starts: &mut Vec<u32>,
+    says: &Says<&[u8]>,
+    declared: &Declared<'_>,
+    kind: StartKind,
+) -> Result<(), Unread>
+    ensures pushed { (all : List Statement) → Declares all declared.now →
+        OnOk result (starts.new.items ≡ starts.old.items ++ cons_option (start_said all kind (says_view says.now)) []) }
+    ensures tested { (all : List Statement) → Declares all declared.now → Tests result (keeps_start all kind (says_view says.now)) }
+{
+    match says {
+        Says::Thread { code, start } if is_same_start(*start, kind) => {
+            let address = declared.code(code)?;
+            starts.push(address)?;
+            Ok(())
         }
-        let opcode = opcode(alloc, &said.pieces)?;
-        code.push(opcode)?;
-        left = rest;
+        _ => Ok(()),
     }
 }
 
-/// Whether the last opcode ends the thread.
-fn ends(code: &[Early]) -> bool
-    ensures value { result ≡ is_end (slice_get code.now (length code.now - 1)) }
-    ensures contains { result ≡ true → Contains code.now Early.End }
+/// Puts the addresses at which the threads of a kind start behind those that are there, in file order.
+fn push_starts(
+    starts: &mut Vec<u32>,
+    statements: &[Stated<&[u8]>],
+    declared: &Declared<'_>,
+    kind: StartKind,
+) -> Result<(), Unread>
+    requires { Declares (statements_view statements.now) declared.now }
+    ensures pushed { OnOk result (starts.new.items ≡ starts.old.items ++ starts_at (statements_view statements.now) kind) }
+    ensures tested { Tests result (keep_starts (statements_view statements.now) kind) }
 {
-    match code.last() {
-        Some(Early::End) => true,
-        Some(Early::Show(_) | Early::Finish) | None => false,
+    for statement in statements {
+        push_start(starts, &statement.says, declared, kind)?;
     }
+    Ok(())
 }
 
-/// The code, where it isn't too long and its last opcode ends the thread.
-fn whole_code(code: Vec<Early>) -> Result<Vec<Early>, Unread>
-    ensures read { Reads (λ code. code.items) result (whole_code code.items) }
-    ensures ends { IfOk result (λ code. Contains code.items Early.End) }
-{
-    if code.len() <= MOST_OPCODES && ends(&code) {
-        Ok(code)
-    } else {
-        Err(Unread::Unsupported)
-    }
-}
-
-/// The program of these statements of the file.
-#[tactic(auto, unfolding(crate::specs::FirstFile::program_at))]
-fn program_of_statements(
+/// The addresses at which the threads start, in start order.
+fn starts_of(
     alloc: Global,
-    src: &[u8],
-    statements: &[Stmt],
-) -> Result<Vec<Early>, Unread>
-    requires small { length src.now ≤ 2 ^ 26 }
-    requires given { AreOf src.now statements.now }
-    ensures read { Reads (λ code. code.items) result (program_at (counted src.now statements.now)) }
-    ensures ends { IfOk result (λ code. Contains code.items Early.End) }
+    statements: &[Stated<&[u8]>],
+    declared: &Declared<'_>,
+) -> Result<Places, Unread>
+    requires { Declares (statements_view statements.now) declared.now }
+    ensures starts { IfOk result (λ starts. starts ≡ starts_of (statements_view statements.now)) }
+    ensures tested { Tests result (keep_starts (statements_view statements.now) Init && (keep_starts (statements_view statements.now) Push && keep_starts (statements_view statements.now) Plain)) }
 {
-    let (label, rest) = module(alloc, src, statements)?;
-    let rest = timescale(alloc, src, rest)?;
-    let rest = current(alloc, src, rest, label)?;
-    let (start, rest) = start(alloc, src, rest, label)?;
-    let code = code(alloc, src, rest, start)?;
-    whole_code(code)
+    let mut starts = Vec::new(alloc);
+    push_starts(&mut starts, statements, declared, StartKind::Init)?;
+    push_starts(&mut starts, statements, declared, StartKind::Push)?;
+    push_starts(&mut starts, statements, declared, StartKind::Plain)?;
+    Ok(Places::from_vec(starts))
 }
 
-/// The program that the bytes of a file say. `Unsupported` says that they say none, be it for a lexical fault.
-pub(crate) fn program(alloc: Global, src: &[u8]) -> Result<Vec<Early>, Unread>
-    requires { length src.now ≤ 2 ^ 26 }
-    ensures read { Reads (λ code. code.items) result (program_of src.now) }
-    ensures ends { IfOk result (λ code. Contains code.items Early.End) }
+/// Refuses a scope that becomes current and is declared nowhere.
+fn current_scopes(statements: &[Stated<&[u8]>], declared: &Declared<'_>) -> Result<(), Unread>
+    requires { Declares (statements_view statements.now) declared.now }
+    ensures { Tests result (keep_current (statements_view statements.now)) }
 {
-    match statements(alloc, src) {
-        Ok(found) => program_of_statements(alloc, src, &found),
-        Err(LexFault::Refused { .. }) => Err(Unread::Unsupported),
-        Err(LexFault::Memory) => Err(Unread::Memory),
+    for statement in statements {
+        if let Says::CurrentScope { scope } = &statement.says {
+            if !declared.is_scope(scope) {
+                return Err(Unread::Unsupported);
+            }
+        }
     }
+    Ok(())
 }
 
-/// A law of the definitions: a file is read as some code exactly where the file says it, row by row. It does nothing.
-pub fn first_file_law()
-    ensures { FirstFileLaw }
-{}
+/// The program of statements that break no link rule.
+fn linked_program(alloc: Global, statements: &[Stated<&[u8]>]) -> Result<EarlyProgram, Unread>
+    ensures read { Reads (λ program. program) result (linked_program (statements_view statements.now)) }
+    ensures runnable { IfOk result IsRunnable }
+{
+    let declared = declarations(alloc, statements)?;
+    current_scopes(statements, &declared)?;
+    let widths = widths_of(alloc, statements)?;
+    let starts = starts_of(alloc, statements, &declared)?;
+    let code = code_of(alloc, statements, &declared)?;
+    Ok(EarlyProgram {
+        widths,
+        code,
+        starts,
+    })
+}
+
+/// What statements of the file say.
+fn read_statements<'a>(
+    alloc: Global,
+    src: &'a [u8],
+    statements: &[Stmt],
+) -> Result<Vec<Stated<&'a [u8]>>, Unread>
+    requires small { length src.now ≤ 2 ^ 26 }
+    requires given { (statement : Stmt) → Contains statements.now statement → Contains (statements_of src.now) statement }
+    ensures { Reads (λ said. statements_view said.items) result (all_said src.now statements.now) }
+{
+    let mut said = Vec::new(alloc);
+    for statement in statements {
+        said.push(read_statement(alloc, src, statement)?)?;
+    }
+    Ok(said)
+}
+
+/// The program that the bytes of a file say. `Unsupported` says that they say none, be it for a lexical fault, for a
+/// statement that isn't spelled or may not stand in such a file, or for a link rule that one breaks.
+pub(crate) fn program(alloc: Global, src: &[u8]) -> Result<EarlyProgram, Unread>
+    requires { length src.now ≤ 2 ^ 26 }
+    ensures read { Reads (λ program. program) result (early_program_of src.now) }
+    ensures runnable { IfOk result IsRunnable }
+    ensures widths { IfOk result (λ program. All (λ width. (1 ≤ width) × (width ≤ 128)) program.widths) }
+{
+    let found = statements(alloc, src)?;
+    let said = read_statements(alloc, src, &found)?;
+    linked_program(alloc, &said)
+}

@@ -1,5 +1,7 @@
 //! The top call over memory.
 
+mod files;
+
 use crate::vvp_main;
 use std::alloc::{AllocError, Global};
 use std::test::Fail;
@@ -77,137 +79,6 @@ fn hello(rt: HostRuntime) -> Result<(), Fail> {
     Ok(())
 }
 
-// The lines of a file that is run, and of files in which one of its lines is another. A `|` stands for a line feed.
-const PARTS: &[u8] = b"S_1 .scope module, \"m\" \"m\" 1 1;|
- .timescale 0 0;|
- .scope S_1;|
-T_0 ;|
- %vpi_call 1 1 \"$display\", \"on\" {0 0 0};| %end;|
- .thread T_0;|";
-
-// The number of the line, the one in its place, and after a `~` what is put out.
-const ACCEPTED: &[u8] = b"6~on|
-0S_1 .scope module , \"\" \"a;b\" 18446744073709551615 0;|~on|
-0:ivl_version \"a\"; |S_1 .scope module, \"m\" \"m\" 1 1;|~on|
-1.timescale -15 2;|~on|
-1 .timescale -0 - 15; :vpi_time_precision - 15;|~on|
-1 .timescale 2 02;|:vpi_time_precision + 2;|:vpi_time_precision 2;| \"text\";|~on|
-2.scope S_1|#;|;|~on|
-3T_0;|~on|
-4%end;|~
-4L_1 %vpi_call/w 1 1 \"$display\", \"a\\\"\\101\\nb\" {0 00 0};|$x %end;| %vpi_call 1 1 \"$finish\" {0 0 0};| %end;|~a\"A|b|
-4 %vpi_call/i 0 0 \"\\044finish\" {0 0 0};| %vpi_call 1 1 \"$display\", \"on\" {0 0 0};| %end;|~
-4 %vpi_call 1 1 \"$display\", \"\" {0 0 0};| %vpi_call 1 1 \"$display\", \"b\" {0 0 0};| %end;|~|b|
-5 .thread T_0; anything \" after it|:file_names 0;|\"N/A\";|~on|";
-
-// The number of the line, and the one in its place.
-const UNSUPPORTED: &[u8] = b"0
-0 .scope module, \"m\" \"m\" 1 1;|
-0 S_1 .scope module, \"m\" \"m\" 1 1;|
-0S_1 .scope task, \"m\" \"m\" 1 1;|
-0S_1 .scope module, \"m\" \"m\" 1;|
-0S_1 .scope module, \"m\" \"m\" 1 1 1;|
-0S_1 .scope module \"m\" \"m\" 1 1;|
-0x :file_names 0;|S_1 .scope module, \"m\" \"m\" 1 1;|
-0:vpi_time_precision + 3;|S_1 .scope module, \"m\" \"m\" 1 1;|
-0:vpi_time_precision - 16;|S_1 .scope module, \"m\" \"m\" 1 1;|
-0:ivl_version;|S_1 .scope module, \"m\" \"m\" 1 1;|
-0 ;|S_1 .scope module, \"m\" \"m\" 1 1;|
-1
-1 .timescale 0;|
-1 .timescale 3 0;|
-1 .timescale 0 -16;|
-1 .timescale + 0 0;|
-1x .timescale 0 0;|
-2 .scope S_2;|
-2 .scope S_;|
-2x .scope S_1;|
-3 T_0 ;|
-3S_1 ;|
-3T_0 T_1;|
-4
-4 %vpi_call 1 1 \"$display\", \"on\" {0 0 0};|
-4 %end;| %vpi_call 1 1 \"$finish\" {0 0 0};|
-4 %vpi_call 1 1 \"$display\", \"5%\" {0 0 0};| %end;|
-4 %vpi_call 1 1 \"$display\", \"\\045\" {0 0 0};| %end;|
-4 %vpi_call 1 1 \"$display\", \"on\" {1 0 0};| %end;|
-4 %vpi_call 1 1 \"$display\" {0 0 0};| %end;|
-4 %vpi_call 1 1 \"$write\", \"on\" {0 0 0};| %end;|
-4 %vpi_call 1 1 \"$finish\", \"on\" {0 0 0};| %end;|
-4 %vpi_call/x 1 1 \"$finish\" {0 0 0};| %end;|
-4 %noop;| %end;|
-4 .thread T_0;| %end;|
-5
-5 .thread T_1;|
-5 .thread T_0, $push;|
-5x .thread T_0;|";
-
-// Appends a text, with a line feed for each `|`.
-fn append(bytes: &mut Vec<u8>, text: &[u8]) -> Result<(), AllocError> {
-    for b in text {
-        bytes.push(if *b == b'|' { b'\n' } else { *b })?;
-    }
-    Ok(())
-}
-
-// The file that a row says: its first byte is a line's number, and what follows stands in that line's place.
-fn file_of(alloc: Global, row: &[u8]) -> Result<Vec<u8>, AllocError> {
-    let mut file = Vec::new(alloc);
-    for (i, part) in PARTS.split(|b| *b == b'\n').enumerate() {
-        match row {
-            [number, text @ ..] if usize::from(*number) == i + 48 => append(&mut file, text)?,
-            _ => append(&mut file, part)?,
-        }
-    }
-    Ok(file)
-}
-
-#[test]
-fn accepted(rt: HostRuntime) -> Result<(), Fail> {
-    let alloc = rt.alloc();
-    for row in ACCEPTED.split(|b| *b == b'\n') {
-        let mut halves = row.split(|b| *b == b'~');
-        let file = file_of(alloc, halves.next().unwrap_or(row))?;
-        let mut want = Vec::new(alloc);
-        append(&mut want, halves.next().unwrap_or(row))?;
-        let (status, out, errs) = run(alloc, &file)?;
-        assert_eq!(rt; status, 0, "at {row:?}");
-        assert_eq!(rt; out.held(), want.as_slice(), "at {row:?}");
-        assert_eq!(rt; errs.held(), b"".as_slice(), "at {row:?}");
-    }
-    Ok(())
-}
-
-#[test]
-fn unsupported(rt: HostRuntime) -> Result<(), Fail> {
-    let alloc = rt.alloc();
-    for row in UNSUPPORTED.split(|b| *b == b'\n') {
-        let file = file_of(alloc, row)?;
-        let (status, out, errs) = run(alloc, &file)?;
-        assert_eq!(rt; status, 2, "at {row:?}");
-        assert_eq!(rt; out.held(), b"".as_slice(), "at {row:?}");
-        assert_eq!(rt;
-            errs.held(),
-            b"vvp: line 0: unsupported statement\n".as_slice(),
-            "at {row:?}"
-        );
-    }
-    Ok(())
-}
-
-#[test]
-fn faulty_files(rt: HostRuntime) -> Result<(), Fail> {
-    for bytes in [b"".as_slice(), b"S_1 .scope module, \"m".as_slice()] {
-        let (status, _out, errs) = run(rt.alloc(), bytes)?;
-        assert_eq!(rt; status, 2);
-        assert_eq!(rt;
-            errs.held(),
-            b"vvp: line 0: unsupported statement\n".as_slice()
-        );
-    }
-    Ok(())
-}
-
 #[test]
 fn missing_file(rt: HostRuntime) -> Result<(), Fail> {
     let alloc = rt.alloc();
@@ -253,7 +124,7 @@ fn failed_write(rt: HostRuntime) -> Result<(), Fail> {
 #[test]
 fn failed_line(rt: HostRuntime) -> Result<(), Fail> {
     let alloc = rt.alloc();
-    let mut store = store_of(alloc, b"")?;
+    let mut store = store_of(alloc, b"S_1 .scope module, \"m")?;
     let mut out = sink(alloc, 1000)?;
     let mut errs = sink(alloc, 1000)?;
     errs.fail_at(1)?;

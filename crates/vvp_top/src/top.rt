@@ -1,18 +1,20 @@
 //! The top call.
 
-ghost use Rattle.std.specs.Prelude.{◌≡◌, ◌⊎◌, ◌≤◌, true, false, None, Some, map, string_bytes, length, IfOk, IfSome};
+ghost use Rattle.std.specs.Prelude.{◌≡◌, ◌⊎◌, ◌≤◌, true, false, None, Some, All, map, string_bytes, length, IfOk, IfErr, IfSome};
 ghost use Rattle.std.specs.Option.{option_map};
+ghost use Rattle.sim_core.specs.Engine.{IsRunnable};
 ghost use Rattle.vvp_edge.specs.Causes.{Rose};
 ghost use Rattle.vvp_edge.specs.declared.store.TheConstants.{MOST_SOURCE};
 ghost use Rattle.vvp_top.specs.Ends.{CutShort, HandedOver, Says};
-ghost use Rattle.vvp_top.specs.Whole.{entries, may_come_anytime, message_at, own_message, status_of, whole, whole_of_source, yields};
+ghost use Rattle.vvp_top.specs.Whole.{entries, may_come_anytime, message_at, own_message, run_of, ended, silent, status_of, whole, whole_of_source, yields};
 
 use crate::Outcome;
 use crate::program::program;
 use crate::source::open_source;
 use crate::unread::Unread;
-use sim_core::{EarlyEnding, early_run};
+use sim_core::{EarlyProgram, Ending, Engine, run};
 use std::alloc::{AllocError, Global};
+use time_wheel::Wheel;
 use vvp_edge::{Sink, Store, send_all};
 
 // The one word, where it doesn't begin with a dash.
@@ -32,21 +34,48 @@ fn file_name(words: &[String]) -> Option<&[u8]>
     }
 }
 
-// How the run of a source ends, and what it puts out.
-fn run_source(alloc: Global, source: &[u8]) -> Result<(Outcome, Vec<u8>), AllocError>
-    requires { length source.now ≤ MOST_SOURCE }
-    ensures { IfOk result (λ r. whole_of_source source.now ≡ record { ending = r.0; output = r.1.items }) }
+/// The most steps that a run does.
+const MOST_STEPS: u64 = 10_000_000;
+
+// How a run ended, or that its budget of steps is spent.
+fn ended(ending: Option<Ending>) -> Outcome
+    ensures ended { result ≡ ended ending }
+    ensures own { (yields result ≡ false) × (result ≡ Outcome.BadWords → ⊥) }
 {
-    let mut output = Vec::new(alloc);
-    let code = match program(alloc, source) {
-        Err(Unread::Unsupported) => return Ok((Outcome::Unsupported, output)),
-        Err(Unread::Memory) => return Err(AllocError),
-        Ok(code) => code,
-    };
-    match early_run(&code, &mut output)? {
-        EarlyEnding::Finish => Ok((Outcome::Finish, output)),
-        EarlyEnding::Idle => Ok((Outcome::Idle, output)),
+    match ending {
+        Some(Ending::Finish) => Outcome::Finish,
+        Some(Ending::Idle) => Outcome::Idle,
+        Some(Ending::Trap { kind, address }) => Outcome::Trap { kind, address },
+        None => Outcome::Spent,
     }
+}
+
+// A program that was loaded and run, and how the run ended.
+fn run_program(alloc: Global, program: EarlyProgram) -> Result<(Outcome, Engine<Wheel>), AllocError>
+    requires runnable { IsRunnable program }
+    requires widths { All (λ width. (1 ≤ width) × (width ≤ 128)) program.widths }
+    ensures ran { IfOk result (λ r. run_of program ≡ record { ending = r.0; output = r.1.machine.tasks.out }) }
+    ensures own { IfOk result (λ r. (yields r.0 ≡ false) × (r.0 ≡ Outcome.BadWords → ⊥)) }
+{
+    let agenda = Wheel::new(alloc)?;
+    let mut engine = Engine::load(alloc, program, agenda)?;
+    let ending = run(&mut engine, MOST_STEPS)?;
+    Ok((ended(ending), engine))
+}
+
+// How the run of a source ends, and the engine that ran it, or why nothing was run to its end.
+fn run_source(alloc: Global, source: &[u8]) -> Result<(Outcome, Engine<Wheel>), Outcome>
+    requires { length source.now ≤ MOST_SOURCE }
+    ensures ran { IfOk result (λ r. whole_of_source source.now ≡ record { ending = r.0; output = r.1.machine.tasks.out }) }
+    ensures own { IfOk result (λ r. (yields r.0 ≡ false) × (r.0 ≡ Outcome.BadWords → ⊥)) }
+    ensures refused { IfErr result (λ ending. (ending ≡ Outcome.Memory) ⊎ ((ending ≡ Outcome.Unsupported) × (whole_of_source source.now ≡ silent ending))) }
+{
+    let program = match program(alloc, source) {
+        Err(Unread::Unsupported) => return Err(Outcome::Unsupported),
+        Err(Unread::Memory) => return Err(Outcome::Memory),
+        Ok(program) => program,
+    };
+    run_program(alloc, program).map_err(|_| Outcome::Memory)
 }
 
 // All but the messages.
@@ -75,11 +104,11 @@ fn perform<S: Store, K: Sink>(
         Err(ending) => return ending,
         Ok(source) => source,
     };
-    let (ending, output) = match run_source(alloc, &source) {
-        Err(_) => return Outcome::Memory,
+    let (ending, engine) = match run_source(alloc, &source) {
+        Err(ending) => return ending,
         Ok(run) => run,
     };
-    match send_all(out, &output) {
+    match send_all(out, engine.out()) {
         Err(_) => Outcome::OutputFault,
         Ok(()) => ending,
     }
@@ -122,6 +151,6 @@ pub fn vvp_main<S: Store, K: Sink, M: Sink>(
         (result ≡ 7) ⊎ ((result ≡ status_of w.ending) × HandedOver w.output (K.held out.old) (K.held out.new))) }
 {
     let ending = perform(alloc, words, store, out);
-    let _said = send_all(errs, ending.message());
+    ending.say(errs);
     ending.status()
 }

@@ -1,6 +1,7 @@
 //! Why a program wasn't read.
 
 use std::alloc::{AllocError, AllocFailed};
+use vvp_lex::{FormFault, LexFault};
 
 /// Why a program wasn't read.
 #[derive(Clone, Copy, Debug, PartialEq, Eq)]
@@ -30,5 +31,33 @@ impl<T: Drop> From<AllocFailed<T>> for Unread {
 
     fn from(_error: AllocFailed<T>) -> Unread {
         Unread::Memory
+    }
+}
+
+impl From<LexFault> for Unread {
+    ghost use Rattle.std.specs.Prelude.{◌≡◌};
+    ghost use Rattle.vvp_top.specs.Unread.{of_lex_fault};
+
+    ghost from_gives = { λ fault unread. unread ≡ of_lex_fault fault };
+
+    fn from(fault: LexFault) -> Unread {
+        match fault {
+            LexFault::Refused { .. } => Unread::Unsupported,
+            LexFault::Memory => Unread::Memory,
+        }
+    }
+}
+
+impl From<FormFault> for Unread {
+    ghost use Rattle.std.specs.Prelude.{◌≡◌};
+    ghost use Rattle.vvp_top.specs.Unread.{of_form_fault};
+
+    ghost from_gives = { λ fault unread. unread ≡ of_form_fault fault };
+
+    fn from(fault: FormFault) -> Unread {
+        match fault {
+            FormFault::Refused { .. } => Unread::Unsupported,
+            FormFault::Memory => Unread::Memory,
+        }
     }
 }

@@ -1,0 +1,6 @@
+use Rattle.vvp_top.proofs.RunLemmas.{run-whole}
+use Rattle.vvp_top.proofs.top.run_program.Goals as goal
+
+pub returns-clause-ran : goal.returns-clause-ran
+returns-clause-ran c =
+    run-whole c.args.program c.in_ok-engine.engine c.run.new.engine c.ended.result c.in_ok-ending.ending c.in_ok-engine.ensures.start c.in_ok-engine.ensures.program c.in_ok-ending.ensures.run c.ended.ensures.ended c.in_ok-ending.ensures.answer
