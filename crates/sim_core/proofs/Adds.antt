@@ -1,6 +1,6 @@
 -- The machine only adds to its output.
-use Rattle.std.proofs.Common.{◌≡◌, ◌≤◌, ℕ, zero, suc, Option, Bool, ◌+◌, ◌^◌, nat_lt, None, Some, true, false, cond, List, [], ◌∷◌, ◌++◌, refl, sym, ◌∙◌, ap, subst, arith, append_assoc, ◌⊎◌, inl, inr}
-use Rattle.std.specs.List.{slice_get, slice_set}
+use Rattle.std.proofs.Common.{◌≡◌, ◌≤◌, ℕ, zero, suc, Option, ◌+◌, ◌^◌, nat_lt, None, Some, true, false, cond, List, [], ◌∷◌, ◌++◌, refl, sym, ◌∙◌, ap, subst, arith, append_assoc, inl, inr}
+use Rattle.std.specs.List.{slice_get}
 use Rattle.std.specs.Option.{is_some}
 use Rattle.std.proofs.lemmas.Bool.{cases_lt}
 use Rattle.std.proofs.lemmas.List.{append-nil}
@@ -17,7 +17,7 @@ use Rattle.sim_core.specs.declared.opcodes.TrapKind.TheVariants.{TimeOver}
 use Rattle.sim_core.specs.declared.program.EarlyOp.{EarlyOp}
 use Rattle.sim_core.specs.declared.program.EarlyProgram.{EarlyProgram}
 use Rattle.sim_core.specs.Engine.{Fails, Shown, with_dues}
-use Rattle.sim_core.specs.Machine.{Machine, affect, after, apply, budgeted, called, delay_region, delayed, done, ended, goes_on, idle, is_idle, is_ready, phase, placed, printed, proceeds, put, ready, run_of, settle, step, step_from, take, take_next, thread_of, time_ends, trapped, with_running}
+use Rattle.sim_core.specs.Machine.{Machine, affect, after, apply, budgeted, called, delay_region, delayed, done, ended, goes_on, idle, is_idle, is_ready, phase, placed, printed, proceeds, put, ready, run_of, settle, step, step_from, take, thread_of, time_ends, trapped, with_running}
 use Rattle.sim_core.specs.Opcodes.{does, finishes, text_of}
 
 -- the second text goes on from the first

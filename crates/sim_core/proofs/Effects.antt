@@ -1,5 +1,5 @@
 -- What an opcode makes of the machine, by a frame that was taken out of its slot.
-use Rattle.std.proofs.Common.{◌≡◌, ◌<◌, ℕ, get_or, Option, nat_eq, arith, zero, suc, Bool, ◌&&◌, ◌+◌, ◌^◌, nat_lt, None, Some, length, true, false, cond, IsTrue, List, [], ◌∷◌, ◌++◌, refl, sym, ◌∙◌, ap, subst}
+use Rattle.std.proofs.Common.{◌≡◌, ◌<◌, ℕ, get_or, Option, nat_eq, zero, suc, Bool, ◌&&◌, ◌+◌, ◌^◌, nat_lt, None, Some, length, true, false, cond, List, [], ◌∷◌, ◌++◌, refl, sym, ◌∙◌, ap, subst}
 use Rattle.std.proofs.Common.{Result, Ok, Err, OnErr}
 use Rattle.std.specs.List.{list_all, slice_get, slice_set}
 use Rattle.std.proofs.lemmas.List.{set-get_or, set-set}
@@ -8,7 +8,6 @@ use Rattle.four_state.specs.declared.bits.Bit.{Bit}
 use Rattle.event_pool.specs.declared.agenda.Due.{Due}
 use Rattle.event_pool.specs.declared.agenda.Region.{Region}
 use Rattle.event_pool.specs.Order.{in_order}
-use Rattle.sim_core.specs.declared.ending.Ending.{Ending}
 use Rattle.sim_core.specs.declared.ending.Ending.TheVariants.{Finish, Trap}
 use Rattle.sim_core.specs.declared.ending.Frame.{Frame}
 use Rattle.sim_core.specs.declared.opcodes.Effect.{Effect}

@@ -1,5 +1,5 @@
 -- What holds of each pending due's act holds of it after each call of an agenda.
-use Rattle.std.proofs.Common.{◌≡◌, ℕ, Bool, true, false, cond, Option, Some, List, [], ◌∷◌, ◌++◌, refl, ap, subst}
+use Rattle.std.proofs.Common.{◌≡◌, ℕ, Bool, true, false, cond, Some, List, [], ◌∷◌, ◌++◌, subst}
 use Rattle.std.specs.List.{All, AllByRecursion, list_any, slice_get}
 use Rattle.std.proofs.lemmas.List.Elements.{All-from_recursion, All-push, recursion_from_All}
 use Rattle.event_pool.specs.declared.agenda.Due.{Due}

@@ -1,5 +1,5 @@
 -- A due comes due alike with its key and without: what an agenda's calls do to dues, they do to dues without keys.
-use Rattle.std.proofs.Common.{◌≡◌, ℕ, Bool, true, false, cond, ◌||◌, min, nat_lt, Option, Some, None, List, [], ◌∷◌, map, filter, refl, sym, ap, ◌∙◌}
+use Rattle.std.proofs.Common.{◌≡◌, ℕ, Bool, true, false, cond, ◌||◌, min, nat_lt, Some, List, [], ◌∷◌, map, refl, ap, ◌∙◌}
 use Rattle.std.specs.List.{list_any, fold, slice_get}
 use Rattle.event_pool.specs.declared.agenda.Due.{Due}
 use Rattle.event_pool.specs.declared.agenda.Region.{Region}

@@ -8,4 +8,3 @@ pub mod Runs
 pub mod Standing
 pub mod Steps
 pub mod Starts
-pub mod Shown

@@ -1,8 +1,7 @@
 -- Runs of several steps.
-use Rattle.std.proofs.Common.{◌≡◌, ◌<◌, ◌≤◌, ◌+◌, ℕ, zero, suc, ◌⊎◌, inl, inr, Bool, true, false, cond, Option, Some, None, List, [], ◌∷◌, ◌++◌, length, refl, sym, ◌∙◌, ap, subst, arith, append_assoc}
+use Rattle.std.proofs.Common.{◌≡◌, ◌≤◌, ◌+◌, ℕ, zero, suc, inl, inr, Bool, true, false, cond, Option, Some, None, List, [], ◌∷◌, ◌++◌, length, refl, sym, ◌∙◌, ap, subst, arith, append_assoc}
 use Rattle.std.proofs.lemmas.Bool.{cases_lt}
 use Rattle.event_pool.specs.declared.agenda.Due.{Due}
-use Rattle.event_pool.specs.Order.{in_order}
 use Rattle.event_pool.proofs.PendingLemmas.{length-in_order}
 use Rattle.sim_core.specs.declared.ending.Ending.{Ending}
 use Rattle.sim_core.specs.declared.program.EarlyProgram.{EarlyProgram}

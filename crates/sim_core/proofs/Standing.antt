@@ -1,5 +1,5 @@
 -- A list of dues without keys stands for an agenda's dues where it is theirs when put in order. Each call of the agenda keeps it so.
-use Rattle.std.proofs.Common.{◌≡◌, ℕ, Bool, Option, Some, List, [], ◌∷◌, ◌++◌, length, map, refl, sym, ap, ◌∙◌}
+use Rattle.std.proofs.Common.{◌≡◌, ℕ, Some, List, [], ◌∷◌, ◌++◌, length, map, sym, ap, ◌∙◌}
 use Rattle.std.specs.List.{list_any, slice_get}
 use Rattle.std.proofs.lemmas.List.{length-map, map-append}
 use Rattle.event_pool.specs.declared.agenda.Due.{Due}

@@ -1,5 +1,5 @@
 -- Whole steps.
-use Rattle.std.proofs.Common.{◌≡◌, ℕ, Option, Bool, None, Some, true, false, List, [], refl, sym, ◌∙◌, ap, subst}
+use Rattle.std.proofs.Common.{◌≡◌, ℕ, Option, None, Some, true, false, List, [], refl, sym, ◌∙◌, ap, subst}
 use Rattle.std.specs.List.{list_any, slice_get}
 use Rattle.event_pool.specs.declared.agenda.Due.{Due}
 use Rattle.event_pool.specs.declared.agenda.Region.TheVariants.{Active}

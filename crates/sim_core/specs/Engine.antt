@@ -1,5 +1,5 @@
--- What an engine shows, against the machine.
-use Rattle.std.specs.Prelude.{◌≡◌, ℕ, ◌<◌, ◌≤◌, ◌^◌, nat_eq, Bool, true, false, if◌then◌else◌, slice_get, is_some, Option, Some, None, List, ◌++◌, length, map, All, IsTrue}
+-- What an engine shows, and when that agrees with the list machine.
+use Rattle.std.specs.Prelude.{◌≡◌, ℕ, ◌<◌, ◌≤◌, ◌^◌, nat_eq, Bool, true, false, if◌then◌else◌, slice_get, is_some, Option, Some, None, List, length, All, IsTrue}
 use Rattle.std.specs.List.{list_all}
 use Rattle.std.specs.Option.{ForSome}
 use Rattle.four_state.specs.declared.bits.Bit.{Bit}
@@ -15,7 +15,7 @@ use Rattle.sim_core.specs.Machine.{Machine, thread_of}
 use Rattle.sim_core.specs.Opcodes.{fits}
 use Rattle.sim_core.specs.Text.{IsBetween}
 
--- a due without its key
+-- a due without its key, the place at which the engine keeps the thread
 abbrev pub unkeyed_act : Act → Act
 unkeyed_act (Run serial key) = Run serial 0
 unkeyed_act (Eval item) = Eval item
@@ -35,12 +35,12 @@ pub record Shown : Type 0 where
   pub machine : Machine
   pub failed : Bool
 
--- the machine is the one that is shown, whichever list of dues it has that is the shown one when put in order
+-- a machine agrees with the one that is shown where its dues, put in order, are those shown, and all else is the same
 pub record Agree (shown machine : Machine) : Type 0 where
   pub dues : in_order machine.pending.dues ≡ shown.pending.dues
   pub rest : machine ≡ with_dues machine.pending.dues shown
 
--- new is what f makes of old, whichever list of dues it is that old shows in order
+-- new shows what f makes of the machine that old shows, whichever list of dues it is that old shows in order
 pub record Follows (f : Machine → Machine) (old new : Shown) : Type 0 where
   pub machine : (dues : List Due) → in_order dues ≡ old.machine.pending.dues → Agree new.machine (f (with_dues dues old.machine))
   pub program : new.program ≡ old.program
@@ -50,7 +50,8 @@ pub record Follows (f : Machine → Machine) (old new : Shown) : Type 0 where
 abbrev pub ChangesOutput : Machine → Machine → Type 0
 ChangesOutput old new = new ≡ record old { tasks = new.tasks }
 
--- Memory was wanting in f: the output goes on, and that of f, whichever list of dues it is that old shows in order, goes on from it.
+-- Memory was wanting in f: the output goes on from that of old, and what f prints goes on from it, whichever list of dues
+-- it is that old shows in order.
 pub record Fails (f : Machine → Machine) (old new : Shown) : Type 0 where
   pub out : (dues : List Due) → in_order dues ≡ old.machine.pending.dues → IsBetween old.machine.tasks.out (f (with_dues dues old.machine)).tasks.out new.machine.tasks.out
   pub program : new.program ≡ old.program
@@ -59,7 +60,7 @@ pub record Fails (f : Machine → Machine) (old new : Shown) : Type 0 where
 abbrev pub IsRunnable : EarlyProgram → Type 0
 IsRunnable program = IsTrue (list_all (fits (length program.widths)) program.code) × (length program.code ≤ 2 ^ 20)
 
--- whether a Run's key is that of its thread
+-- whether a Run's key is the place of its thread, which is its serial
 abbrev pub is_keyed : Act → Bool
 is_keyed (Run serial key) = nat_eq key serial
 is_keyed (Eval item) = true
@@ -68,7 +69,8 @@ is_keyed (Update item word offset value) = true
 abbrev pub IsKeyed : Due → Type 0
 IsKeyed due = IsTrue (is_keyed due.act)
 
--- what an engine keeps: its values are those of its variables; a running thread has a frame's place and a slot for its next due; keys are right
+-- What an engine keeps: a runnable program, a value for each variable, a slot and a spare due for the running thread, and
+-- Runs whose keys are their serials.
 pub record IsSound (program : EarlyProgram) (frames : List (Option Frame)) (running : Option ℕ) (values : List (List Bit)) (spare : ℕ) (dues : List Due) : Type 0 where
   pub runnable : IsRunnable program
   pub values_are : length values ≡ length program.widths

@@ -1,5 +1,5 @@
 -- The list machine: its state in plain lists, and its step (IEEE 1364-2005, clause 11).
-use Rattle.std.specs.Prelude.{◌≡◌, ℕ, zero, suc, ◌+◌, ◌^◌, nat_lt, max, Bool, true, false, if◌then◌else◌, Option, Some, None, List, [], ◌∷◌, ◌++◌, length, slice_get, slice_set, is_some}
+use Rattle.std.specs.Prelude.{ℕ, zero, suc, ◌+◌, ◌^◌, nat_lt, max, Bool, true, false, if◌then◌else◌, Option, Some, None, List, [], ◌∷◌, ◌++◌, length, slice_get, slice_set, is_some}
 use Rattle.std.specs.List.{list_any}
 use Rattle.four_state.specs.declared.bits.Bit.{Bit}
 use Rattle.event_pool.specs.declared.agenda.Due.{Due}
@@ -17,28 +17,29 @@ use Rattle.sim_core.specs.declared.opcodes.Effect.TheVariants.{Next, Goto, Set, 
 use Rattle.sim_core.specs.declared.ending.Ending.{Ending}
 use Rattle.sim_core.specs.declared.ending.Ending.TheVariants.{Finish, Idle, Trap}
 use Rattle.sim_core.specs.declared.ending.Frame.{Frame}
-use Rattle.sim_core.specs.Opcodes.{does, finishes, stored, text_of, value_of}
+use Rattle.sim_core.specs.Opcodes.{does, finishes, stored, text_of}
 
--- The state, a record a layer. A later layer's field stands in that layer's record, and no other definition names it.
+-- The state, with a record for each subject.
 
--- the threads by serial, none where a thread has ended, and the serial of the one that runs
+-- the threads by serial, none where a thread has ended, and the serial of the running one, if there is one
 pub record Threads : Type 0 where
   pub frames : List (Option Frame)
   pub running : Option ℕ
 
--- the values of the variables, by their number
+-- the values of the variables by their number, each with its lowest bit first
 pub record Values : Type 0 where
   pub variables : List (List Bit)
 
--- the time, and the pending dues in the order of putting; a thread's due names its serial, and its key is 0
+-- the present time in ticks, and the pending dues in the order in which they were put; a thread's due names its serial, and its key is always 0
 pub record Pending : Type 0 where
   pub now : ℕ
   pub dues : List Due
 
--- what the system tasks have printed
+-- the bytes that the system tasks have printed
 pub record Tasks : Type 0 where
   pub out : List ℕ
 
+-- the state; the steps are the opcodes done and the dues taken, and the ending is none while the run goes on
 pub record Machine : Type 0 where
   pub threads : Threads
   pub values : Values
@@ -63,7 +64,7 @@ put due machine = record machine { pending = record machine.pending { dues = mac
 abbrev pub placed : ℕ → Frame → ℕ → Machine → Machine
 placed serial frame place machine = record machine { threads = record machine.threads { frames = slice_set machine.threads.frames serial (Some (record frame { pc = place })) } }
 
--- this thread runs, or none
+-- the thread of this serial runs, or none does
 abbrev pub with_running : Option ℕ → Machine → Machine
 with_running running machine = record machine { threads = record machine.threads { running = running } }
 
@@ -88,7 +89,7 @@ delayed ticks serial frame machine =
 
 -- Tasks
 
--- the read-only phase, in which nothing is due yet
+-- the read-only phase at the end of a time step: none of the tasks here prints in it
 abbrev pub phase : Machine → Machine
 phase machine = machine
 
@@ -105,7 +106,7 @@ called (Some op) machine =
 
 -- Opcodes
 
--- a variable has a new value
+-- a value is laid over a variable, from its lowest bit on
 abbrev pub set : ℕ → List Bit → Machine → Machine
 set var value machine = record machine { values = record machine.values { variables = stored machine.values.variables var value } }
 
@@ -140,10 +141,11 @@ proceeds program serial (Some frame) machine = done program (slice_get program.c
 abbrev pub next_opcode : EarlyProgram → ℕ → Machine → Machine
 next_opcode program serial machine = proceeds program serial (thread_of (slice_get machine.threads.frames serial)) machine
 
--- a step is counted
+-- a step is counted, and the peak taken of the dues that it leaves
 abbrev pub counted : Machine → Machine
 counted machine = record machine { steps = machine.steps + 1; peak = max machine.peak (length machine.pending.dues) }
 
+-- the next opcode of the thread of a serial, as a step
 abbrev pub proceed : EarlyProgram → ℕ → Machine → Machine
 proceed program serial machine = counted (next_opcode program serial machine)
 
@@ -204,7 +206,7 @@ step_from program None machine = goes_on program machine.threads.running machine
 abbrev pub step : EarlyProgram → Machine → Machine
 step program machine = step_from program machine.ending machine
 
--- so many steps
+-- the machine after so many steps
 abbrev pub after : EarlyProgram → ℕ → Machine → Machine
 after program zero machine = machine
 after program (suc n) machine = step program (after program n machine)

@@ -1,11 +1,11 @@
+-- What each opcode makes of its thread's stack, the top first, and the effect that it hands out.
 use Rattle.std.specs.Prelude.{ℕ, nat_eq, nat_lt, Bool, true, false, if◌then◌else◌, List, [], ◌∷◌, ◌++◌, length, map, reverse, slice_index_or, slice_set, pos}
 use Rattle.four_state.specs.declared.bits.Bit.{Bit}
 use Rattle.four_state.specs.declared.bits.Bit.TheVariants.{Zero, One, Unknown, HighZ}
 use Rattle.four_state.specs.Vector.{overlaid}
 use Rattle.sim_core.specs.declared.program.EarlyOp.{EarlyOp}
 use Rattle.sim_core.specs.declared.program.EarlyOp.TheVariants.{Push, Load, Store, Jump, Delay, Show, ShowBits, Finish, End}
-use Rattle.sim_core.specs.declared.opcodes.TrapKind.{TrapKind}
-use Rattle.sim_core.specs.declared.opcodes.TrapKind.TheVariants.{StackUnder, StackOver, Width, OffEnd, TimeOver}
+use Rattle.sim_core.specs.declared.opcodes.TrapKind.TheVariants.{StackUnder, StackOver, Width}
 use Rattle.sim_core.specs.declared.opcodes.Effect.{Effect}
 use Rattle.sim_core.specs.declared.opcodes.Effect.TheVariants as effect
 
@@ -17,11 +17,11 @@ value_of values var = slice_index_or values var []
 abbrev pub stored : List (List Bit) → ℕ → List Bit → List (List Bit)
 stored values var piece = slice_set values var (overlaid (value_of values var) (pos 0) piece)
 
--- an item is pushed, unless the stack is full
+-- an item is pushed, unless the stack is full, of 256 items
 abbrev pub pushed : List Bit → List (List Bit) → List (List Bit) × Effect
 pushed item stack = if nat_lt (length stack) 256 then (item ∷ stack, effect.Next) else (stack, effect.Trap StackOver)
 
--- an item of a width is popped and becomes the variable's value
+-- an item of a width is popped, to be laid over a variable
 abbrev pub popped_for : ℕ → ℕ → List (List Bit) → List (List Bit) × Effect
 popped_for var width [] = ([], effect.Trap StackUnder)
 popped_for var width (item ∷ stack) = if nat_eq (length item) width then (stack, effect.Set var item) else (item ∷ stack, effect.Trap Width)
@@ -50,7 +50,7 @@ fits count (Show text) = true
 fits count Finish = true
 fits count End = true
 
--- the digit of a bit
+-- the digit of a bit (IEEE 1364-2005, 17.1.1)
 abbrev pub digit_of : Bit → ℕ
 digit_of Zero = 48
 digit_of One = 49

@@ -1,19 +1,19 @@
+-- The state in which a run starts.
 use Rattle.std.specs.Prelude.{ℕ, zero, suc, ◌+◌, Option, Some, None, List, [], ◌∷◌, length, map, replicate}
 use Rattle.four_state.specs.declared.bits.Bit.{Bit}
 use Rattle.four_state.specs.declared.bits.Bit.TheVariants.{Unknown}
 use Rattle.event_pool.specs.declared.agenda.Due.{Due}
 use Rattle.event_pool.specs.declared.agenda.Act.TheVariants.{Run}
 use Rattle.event_pool.specs.declared.agenda.Region.TheVariants.{Inactive}
-use Rattle.sim_core.specs.Engine.{unkeyed}
 use Rattle.sim_core.specs.declared.program.EarlyProgram.{EarlyProgram}
 use Rattle.sim_core.specs.declared.ending.Frame.{Frame}
 use Rattle.sim_core.specs.Machine.{Machine, run_of}
 
--- a value of a width that is unknown at each place
+-- a value of a width that is x at each place
 abbrev pub unknown : ℕ → List Bit
 unknown width = replicate width Unknown
 
--- a thread that starts at a place
+-- a thread that starts at a place of the code, with an empty stack
 abbrev pub frame_at : ℕ → Option Frame
 frame_at place = Some (record { pc = place; stack = [] })
 
@@ -27,7 +27,7 @@ abbrev pub runs_from : ℕ → List ℕ → List Due
 runs_from serial [] = []
 runs_from serial (place ∷ places) = run_of 0 Inactive serial ∷ runs_from (serial + 1) places
 
--- the start: every value is x, and each thread has a Run, Inactive at time 0
+-- the start: every value is x, nothing is printed, and each thread has a Run, Inactive at time 0, in the order of starting
 abbrev pub start_of : EarlyProgram → Machine
 start_of program = record {
   threads = record { frames = map frame_at program.starts; running = None };

@@ -1,4 +1,4 @@
-ghost use Rattle.std.specs.Prelude.{◌≡◌, ◌<◌, ◌+◌, ◌*◌, ◌^◌, IfOk, OnOk, OnErr};
+ghost use Rattle.std.specs.Prelude.{◌≡◌, ◌<◌, ◌+◌, ◌*◌, ◌^◌, true, IfOk, OnOk, OnErr};
 ghost use Rattle.sim_core.specs.Engine.{Fails, Follows};
 ghost use Rattle.sim_core.specs.Machine.{run_from};
 
@@ -21,6 +21,8 @@ pub fn run<A: Agenda + Drop>(
     requires steps { engine.old.machine.steps + budget < 3 * 2 ^ 62 }
     ensures run { OnOk result (Follows (run_from engine.old.program budget) engine.old engine.new) }
     ensures err { OnErr result (Fails (run_from engine.old.program budget) engine.old engine.new) }
+    // It answers this from now on.
+    ensures failed { OnErr result (engine.new.failed ≡ true) }
     ensures answer { IfOk result (λ ending. ending ≡ engine.new.machine.ending) }
 {
     for _done in 0..budget {

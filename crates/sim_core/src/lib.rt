@@ -4,12 +4,9 @@
 //! `Engine` does the run step by step, and each step is the list machine's (`specs/Machine.antt`): whatever keeps the
 //! pending dues, output, time, counts and ending are those of a machine that keeps them in plain lists. `run` does up
 //! to a budget of steps.
-//!
-//! `early_run` is the run of a file with one thread that only shows texts, which the program has today.
 #![tactic(auto)]
 
 mod budget;
-mod early;
 mod ending;
 mod engine;
 mod opcodes;
@@ -19,7 +16,6 @@ mod tests;
 mod text;
 
 pub use budget::run;
-pub use early::{Early, EarlyEnding, early_run};
 pub use ending::Ending;
 pub use engine::Engine;
 pub use opcodes::{STACK_DEPTH, TrapKind};

@@ -62,6 +62,26 @@ fn start(
     Engine::load(alloc, program, ListAgenda::new(alloc))
 }
 
+// A run that starts; none where its code does not fit.
+fn start_small(
+    alloc: Global,
+    code: Vec<EarlyOp>,
+    starts: &[u32],
+) -> Result<Option<Engine<ListAgenda>>, AllocError> {
+    if code.len() > 100 || !all_fit(&code, 1) {
+        return Ok(None);
+    }
+    Ok(Some(start(alloc, code, starts)?))
+}
+
+// A step of a run that has done fewer than 100.
+fn next(engine: &mut Engine<ListAgenda>) -> Result<Option<Ending>, AllocError> {
+    if engine.steps() >= 100 {
+        return Err(AllocError);
+    }
+    engine.step()
+}
+
 // Runs a program with one variable of two bits; none where its code does not fit.
 fn run_small(
     alloc: Global,
@@ -149,5 +169,20 @@ fn budgets_end_runs(rt: HostRuntime) -> Result<(), Fail> {
     let run = run_small(alloc, Vec::new(alloc), &[], 0)?.ok_or("unfit")?;
     assert_eq!(rt; run.ending, Some(Ending::Idle));
     assert_eq!(rt; run.engine.steps(), 0);
+    Ok(())
+}
+
+#[test]
+fn steps_go_on_or_end(rt: HostRuntime) -> Result<(), Fail> {
+    let alloc = rt.alloc();
+    let jump = vec![in alloc; EarlyOp::Jump(0)]?;
+    let mut engine = start_small(alloc, jump, &[0])?.ok_or("unfit")?;
+    for _ in 0..5 {
+        assert_eq!(rt; next(&mut engine)?, None);
+    }
+    assert_eq!(rt; engine.steps(), 5);
+    let mut engine = start_small(alloc, Vec::new(alloc), &[])?.ok_or("unfit")?;
+    assert!(rt; engine.idle());
+    assert_eq!(rt; next(&mut engine)?, Some(Ending::Idle));
     Ok(())
 }

@@ -23,6 +23,7 @@ use Rattle.vvp_forms.specs.Operands.{no_operands, pieces_at}
 use Rattle.vvp_forms.specs.Checks.{◌>>=◌, needed}
 use Rattle.vvp_forms.specs.Forms.{Answer, form_of}
 use Rattle.vvp_forms.specs.Reading.{is_label, row_or, row_of, label_fits, form_at, after_label, form_spelled, Answers}
+use Rattle.vvp_forms.proofs.PiecesLaw.{pieces-sound, pieces-complete}
 use Rattle.vvp_forms.specs.Spells.{IsRow, LabelIs, SpellsRow, SpellsFirst, Spells, SpellsOnly, SpellsNone}
 
 -- whether a spelling is that of the word
@@ -158,7 +159,8 @@ with_row file labelled tokens found = label_fits (label_of found) labelled >>= w
 form_at-read : (file : List ℕ) (labelled : Bool) (first : Spanned) (tokens : List Spanned) (found : Form) → SpellsRow file labelled first tokens found → form_at file labelled first tokens ≡ Ok found
 unfolding form_at
 form_at-read file labelled first tokens found s =
-    rw (row-read file first tokens s.row s.is_row, label-read (label_of s.row) labelled s.has_label, s.has_operands) s.means
+    let operands = pieces-complete file (pieces_of s.row) no_operands s.operands tokens s.has_operands in
+    rw (row-read file first tokens s.row s.is_row, label-read (label_of s.row) labelled s.has_label, operands) s.means
 
 -- what is read is spelled by a row
 form_at-spelled : (file : List ℕ) (labelled : Bool) (first : Spanned) (tokens : List Spanned) (found : Form) → form_at file labelled first tokens ≡ Ok found → SpellsRow file labelled first tokens found
@@ -167,12 +169,13 @@ form_at-spelled file labelled first tokens found is =
     let named = bind_ok (row_of file first.token (span_of first) tokens) (with_row file labelled tokens) found is in
     let label = bind_ok (label_fits (label_of named.0) labelled) (with_label file tokens named.0) found named.2 in
     let operands = bind_ok (needed (pieces_at file (pieces_of named.0) no_operands tokens)) (with_operands file named.0) found label.2 in
+    let read = needed-some (pieces_at file (pieces_of named.0) no_operands tokens) operands.0 operands.1 in
     record {
       row = named.0;
       operands = operands.0;
       is_row = row-spelled file first tokens named.0 named.1;
       has_label = label-spelled (label_of named.0) labelled label.0 label.1;
-      has_operands = needed-some (pieces_at file (pieces_of named.0) no_operands tokens) operands.0 operands.1;
+      has_operands = pieces-sound file (pieces_of named.0) no_operands operands.0 tokens read;
       means = operands.2;
     }
 

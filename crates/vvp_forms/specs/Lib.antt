@@ -3,6 +3,7 @@ pub mod Table
 pub mod Numbers
 pub mod Ports
 pub mod Operands
+pub mod Pieces
 pub mod Choices
 pub mod Unsupported
 pub mod Checks

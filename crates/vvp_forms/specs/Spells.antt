@@ -1,5 +1,5 @@
 -- Which forms a list of tokens spells.
-use Rattle.std.specs.Prelude.{◌≡◌, ℕ, Bool, true, false, List, [], ◌∷◌, ◌⊎◌, Some, Ok}
+use Rattle.std.specs.Prelude.{◌≡◌, ℕ, Bool, true, false, List, [], ◌∷◌, ◌⊎◌, Ok}
 use Rattle.std.specs.List.{Contains}
 use Rattle.vvp_lex.specs.declared.types.Spanned.{Spanned}
 use Rattle.vvp_lex.specs.declared.types.Token.TheVariants as token
@@ -14,7 +14,8 @@ use Rattle.vvp_forms.specs.declared.table.Row.TheVariants as row
 use Rattle.vvp_forms.specs.declared.pieces.Operands.{Operands}
 use Rattle.vvp_forms.specs.Tokens.{span_of, bytes_of, is_mark_at}
 use Rattle.vvp_forms.specs.Table.{Spelling, rows, fits, label_of, pieces_of}
-use Rattle.vvp_forms.specs.Operands.{no_operands, pieces_at}
+use Rattle.vvp_forms.specs.Operands.{no_operands}
+use Rattle.vvp_forms.specs.Pieces.{ArePieces}
 use Rattle.vvp_forms.specs.Forms.{form_of}
 use Rattle.vvp_forms.specs.Reading.{is_label}
 
@@ -45,7 +46,7 @@ pub record SpellsRow (file : List ℕ) (labelled : Bool) (first : Spanned) (toke
   pub operands : Operands
   pub is_row : IsRow file first tokens row
   pub has_label : LabelIs (label_of row) labelled
-  pub has_operands : pieces_at file (pieces_of row) no_operands tokens ≡ Some operands
+  pub has_operands : ArePieces file (pieces_of row) no_operands operands tokens
   pub means : form_of file row operands ≡ Ok found
 
 -- a label alone, or a row after a label

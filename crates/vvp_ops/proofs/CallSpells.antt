@@ -1,26 +1,21 @@
-use Rattle.std.proofs.Common.{◌≡◌, ℕ, Bool, true, false, List, [], ◌∷◌, drop, nat_eq, Option, None, Some, is_some, refl, sym, ap, ◌∙◌, if◌then◌else◌, eqb-true, subst}
+use Rattle.std.proofs.Common.{◌≡◌, ℕ, Bool, true, false, List, [], ◌∷◌, drop, Option, None, Some, is_some, refl, sym, ap, ◌∙◌, if◌then◌else◌}
 use Rattle.std.specs.Option.{option_map}
 use Rattle.vvp_lex.specs.declared.types.Name.{Name}
 use Rattle.vvp_lex.specs.declared.types.Spanned.{Spanned}
-use Rattle.vvp_lex.specs.declared.types.Token.{Token}
 use Rattle.vvp_lex.specs.declared.types.Token.TheVariants as token
 use Rattle.vvp_lex.specs.Unescaped.{text_of}
 use Rattle.vvp_ops.specs.declared.args.Arg.{Arg}
 use Rattle.vvp_ops.specs.declared.op.Op.{Op}
 use Rattle.vvp_ops.specs.declared.op.Op.TheVariants as o
-use Rattle.vvp_ops.specs.Tokens.{◌>>=◌, span_of, bytes_of, is_mark, mark_in, mark_at, number_at, text_at}
+use Rattle.vvp_ops.specs.Tokens.{◌>>=◌, span_of, bytes_of, is_mark, mark_at, number_at, text_at}
 use Rattle.vvp_ops.specs.Arguments.{argument_at, tokens_in}
 use Rattle.vvp_ops.specs.Calls.{Arguments, with_argument, arguments_of, pops_of, is_task, is_function, task_of, function_of}
-use Rattle.vvp_ops.specs.Spells.{SpellsArguments, SpellsTask, SpellsFunction}
+use Rattle.vvp_ops.specs.Spelled.{One, AreArguments, ArePops}
+use Rattle.vvp_ops.specs.Spells.{SpellsTask, SpellsFunction}
 use Rattle.vvp_ops.proofs.CallLemmas.{arguments_of-passed, arguments_of-comma, arguments_of-end}
-
--- a step that gave some
-bind-some : {A B : Type 0} (read : Option A) (next : A → Option B) (value : B) → (read >>= next) ≡ Some value → (x : A) × (read ≡ Some x) × (next x ≡ Some value)
-bind-some None next value h = cc
-bind-some (Some x) next value h = (x, refl, h)
-
-abbrev marked : Bool → Option (Unit {0})
-marked test = if test then Some tt else None
+use Rattle.vvp_ops.proofs.PlaceLemmas.{bind-some, is_mark-is, number-sound, number-complete, text-sound, text-complete, mark-complete}
+use Rattle.vvp_ops.proofs.ArgumentLaw.{argument-sound, argument-complete}
+use Rattle.vvp_ops.proofs.PopsSpells.{task_word-sound, function_word-sound, pops-sound, pops-complete, pops-no_mark}
 
 -- the parts of what was read
 same_read : (read other : Arguments) → Some read ≡ Some other → read ≡ other
@@ -32,38 +27,27 @@ same_args read other h = ap (λ (r : Arguments). r.0) (same_read read other h)
 same_after : (read other : Arguments) → Some read ≡ Some other → read.1 ≡ other.1
 same_after read other h = ap (λ (r : Arguments). r.1) (same_read read other h)
 
-brace_byte : (byte : ℕ) (test : Bool) → nat_eq byte 123 ≡ test → marked test ≡ Some tt → is_some (mark_in 44 (token.Punct byte)) ≡ false
-brace_byte byte true e h =
-    let same : byte ≡ 123 = eqb-true byte 123 e in
-    let P : ℕ → Type 0 = λ b. is_some (mark_in 44 (token.Punct b)) ≡ false in
-    subst P (sym same) refl
-brace_byte byte false e h = cc
-
--- a brace is no comma
-brace-no_comma : (found : Token) → mark_in 123 found ≡ Some tt → is_some (mark_in 44 found) ≡ false
-brace-no_comma (token.Punct byte) h = brace_byte byte (nat_eq byte 123) refl h
-brace-no_comma _ h = cc
-
-no_comma : (tokens : List Spanned) → mark_at tokens 0 123 ≡ Some tt → is_some (mark_at tokens 0 44) ≡ false
-unfolding mark_at
-no_comma [] h = cc
-no_comma (first ∷ tokens) h = brace-no_comma first.token h
-
 -- the arguments are over where the pops stand
-pops-end : (file : List ℕ) (tokens : List Spanned) (pops : ℕ) → pops_of tokens ≡ Some pops → arguments_of file 0 tokens ≡ Some ([], tokens)
-unfolding pops_of
-pops-end file tokens pops h =
-    arguments_of-end file tokens (no_comma tokens (bind-some (mark_at tokens 0 123) _ pops h).1)
+pops-end : (file : List ℕ) (tokens : List Spanned) (pops : ℕ) → ArePops tokens pops → arguments_of file 0 tokens ≡ Some ([], tokens)
+pops-end file tokens pops s = arguments_of-end file tokens (pops-no_mark 44 tokens pops refl s)
+
+comma-no_less : (tokens rest : List Spanned) → One (token.Punct 44) tokens rest → is_some (mark_at tokens 0 60) ≡ false
+unfolding mark_at
+comma-no_less tokens rest one = rw (one.1, one.2) refl
+
+-- after an argument stands a comma or a brace
+arguments-no_less : (file : List ℕ) (tokens : List Spanned) (args : List (Arg Name)) (after : List Spanned) → AreArguments file tokens args after → is_some (mark_at after 0 60) ≡ false → is_some (mark_at tokens 0 60) ≡ false
+arguments-no_less file tokens [] after s over = ap (λ (l : List Spanned). is_some (mark_at l 0 60)) s ∙ over
+arguments-no_less file tokens (arg ∷ args) after s over = comma-no_less tokens s.0 s.2
 
 -- arguments that are spelled are read
-arguments-read : (file : List ℕ) (tokens : List Spanned) (args : List (Arg Name)) (after : List Spanned) → SpellsArguments file tokens args after → arguments_of file 0 after ≡ Some ([], after) → arguments_of file 0 tokens ≡ Some (args, after)
-arguments-read file tokens [] after h over = ap (arguments_of file 0) h ∙ over
-arguments-read file tokens (arg ∷ args) after h over =
-    arguments_of-comma file tokens arg (ap is_some h.0) h.1 ∙ ap (option_map (with_argument arg)) (arguments-read file (drop (tokens_in arg) (drop 1 tokens)) args after h.2 over)
-
-mark-comma : (first : Spanned) (tokens : List Spanned) → is_mark 44 first.token ≡ true → mark_at (first ∷ tokens) 0 44 ≡ Some tt
-unfolding mark_at
-mark-comma first tokens e = rw e refl
+arguments-read : (file : List ℕ) (tokens : List Spanned) (args : List (Arg Name)) (after : List Spanned) → AreArguments file tokens args after → is_some (mark_at after 0 60) ≡ false → arguments_of file 0 after ≡ Some ([], after) → arguments_of file 0 tokens ≡ Some (args, after)
+arguments-read file tokens [] after s no_less over = ap (arguments_of file 0) s ∙ over
+arguments-read file tokens (arg ∷ args) after s no_less over =
+    let comma = mark-complete 0 tokens tokens s.0 44 refl s.2 in
+    let one = argument-complete file arg s.0 s.1 s.3 (arguments-no_less file s.1 args after s.4 no_less) in
+    let left : drop (tokens_in arg) (drop 1 tokens) ≡ s.1 = ap (drop (tokens_in arg)) comma.1 ∙ one.1 in
+    arguments_of-comma file tokens arg (ap is_some comma.0) (ap (argument_at file) comma.1 ∙ one.0) ∙ ap (λ (l : List Spanned). option_map (with_argument arg) (arguments_of file 0 l)) left ∙ ap (option_map (with_argument arg)) (arguments-read file s.1 args after s.4 no_less over)
 
 -- arguments that are read are spelled
 spelled_rest : (file : List ℕ) (arg : Arg Name) (tokens : List Spanned) (args : List (Arg Name)) (after : List Spanned) (more : Option Arguments) → arguments_of file (tokens_in arg) tokens ≡ more → option_map (with_argument arg) more ≡ Some (args, after) → (rest : List (Arg Name)) × (args ≡ arg ∷ rest) × (arguments_of file 0 (drop (tokens_in arg) tokens) ≡ Some (rest, after))
@@ -78,7 +62,7 @@ spelled_first file tokens args after None e h = cc
 spelled_first file tokens args after (Some arg) e h =
     let found = spelled_rest file arg tokens args after _ refl h in (arg, found.0, e, found.1, found.2)
 
-arguments-spelled : (file : List ℕ) (args : List (Arg Name)) (tokens : List Spanned) (after : List Spanned) → arguments_of file 0 tokens ≡ Some (args, after) → SpellsArguments file tokens args after
+arguments-spelled : (file : List ℕ) (args : List (Arg Name)) (tokens : List Spanned) (after : List Spanned) → arguments_of file 0 tokens ≡ Some (args, after) → AreArguments file tokens args after
 arguments-spelled file [] [] after h = same_after _ _ h
 arguments-spelled file [] (first ∷ tokens) after h = by (is_mark 44 first.token) refl h
   where
@@ -91,7 +75,7 @@ arguments-spelled file (arg ∷ args) [] after h =
     let none : [] ≡ arg ∷ args = same_args _ _ h in cc
 arguments-spelled file (arg ∷ args) (first ∷ tokens) after h = by (is_mark 44 first.token) refl h (arguments-spelled file args)
   where
-    by : (comma : Bool) → is_mark 44 first.token ≡ comma → (if comma then (argument_at file tokens >>= λ arg. option_map (with_argument arg) (arguments_of file (tokens_in arg) tokens)) else Some ([], first ∷ tokens)) ≡ Some (arg ∷ args, after) → ((left rest : List Spanned) → arguments_of file 0 left ≡ Some (args, rest) → SpellsArguments file left args rest) → SpellsArguments file (first ∷ tokens) (arg ∷ args) after
+    by : (comma : Bool) → is_mark 44 first.token ≡ comma → (if comma then (argument_at file tokens >>= λ arg. option_map (with_argument arg) (arguments_of file (tokens_in arg) tokens)) else Some ([], first ∷ tokens)) ≡ Some (arg ∷ args, after) → ((left rest : List Spanned) → arguments_of file 0 left ≡ Some (args, rest) → AreArguments file left args rest) → AreArguments file (first ∷ tokens) (arg ∷ args) after
     by true e h others =
         let found = spelled_first file tokens (arg ∷ args) after _ refl h in
         let split : arg ∷ args ≡ found.0 ∷ found.1 = found.3 in
@@ -99,15 +83,20 @@ arguments-spelled file (arg ∷ args) (first ∷ tokens) after h = by (is_mark 4
         let same_rest : found.1 ≡ args = cc in
         let read : argument_at file tokens ≡ Some arg = found.2 ∙ ap Some same in
         let left : arguments_of file 0 (drop (tokens_in arg) tokens) ≡ Some (args, after) = ap (λ (a : Arg Name). arguments_of file 0 (drop (tokens_in a) tokens)) (sym same) ∙ found.4 ∙ ap (λ (rest : List (Arg Name)). Some (rest, after)) same_rest in
-        (mark-comma first tokens e, read, others (drop (tokens_in arg) tokens) after left)
+        (tokens, drop (tokens_in arg) tokens, (first, refl, is_mark-is 44 first.token e), argument-sound file tokens arg read, others (drop (tokens_in arg) tokens) after left)
     by false e h others = let none : [] ≡ arg ∷ args = same_args _ _ h in cc
 
 -- a task call that is spelled is read
 pub task-read : (file : List ℕ) (tokens : List Spanned) (opcode : Op Name) (s : SpellsTask file tokens opcode) → task_of file s.rest ≡ Some opcode
 unfolding task_of
 task-read file tokens opcode s =
-    let read = arguments-read file (drop 3 s.rest) s.args s.after s.has_arguments (pops-end file s.after s.pops s.has_pops) in
-    rw (s.has_number, s.has_line, s.has_name, read, s.has_pops) (ap Some (sym s.means))
+    let number = number-complete 0 s.rest s.rest s.t1 s.number refl s.has_number in
+    let line = number-complete 1 s.rest s.t1 s.t2 s.line number.1 s.has_line in
+    let name = text-complete 2 s.rest s.t2 s.t3 s.name line.1 s.has_name in
+    let args = arguments-read file s.t3 s.args s.after s.has_arguments (pops-no_mark 60 s.after s.pops refl s.has_pops) (pops-end file s.after s.pops s.has_pops) in
+    let read : arguments_of file 0 (drop 3 s.rest) ≡ Some (s.args, s.after) = ap (arguments_of file 0) name.1 ∙ args in
+    let pops = pops-complete s.after s.pops s.has_pops in
+    rw (number.0, line.0, name.0, read, pops) (ap Some (sym s.means))
 
 -- a task call that is read is spelled
 pub task-spelled : (file : List ℕ) (word : Spanned) (rest : List Spanned) (opcode : Op Name) → is_task (bytes_of file (span_of word)) ≡ true → task_of file rest ≡ Some opcode → SpellsTask file (word ∷ rest) opcode
@@ -122,19 +111,22 @@ task-spelled file word rest opcode spelled h =
     record {
       word = word;
       rest = rest;
+      t1 = drop 1 rest;
+      t2 = drop 2 rest;
+      t3 = drop 3 rest;
+      after = read.0.1;
       number = number.0;
       line = line.0;
       name = name.0;
       args = read.0.0;
-      after = read.0.1;
       pops = pops.0;
       begins = refl;
-      is_spelled = spelled;
-      has_number = number.1;
-      has_line = line.1;
-      has_name = name.1;
+      is_spelled = task_word-sound (bytes_of file (span_of word)) spelled;
+      has_number = number-sound 0 rest number.0 number.1;
+      has_line = number-sound 1 rest line.0 line.1;
+      has_name = text-sound 2 rest name.0 name.1;
       has_arguments = arguments-spelled file read.0.0 (drop 3 rest) read.0.1 read.1;
-      has_pops = pops.1;
+      has_pops = pops-sound read.0.1 pops.0 pops.1;
       means = cc;
     }
 
@@ -142,8 +134,14 @@ task-spelled file word rest opcode spelled h =
 pub function-read : (file : List ℕ) (tokens : List Spanned) (opcode : Op Name) (s : SpellsFunction file tokens opcode) → function_of file s.rest ≡ Some opcode
 unfolding function_of
 function-read file tokens opcode s =
-    let read = arguments-read file (drop 4 s.rest) s.args s.after s.has_arguments (pops-end file s.after s.pops s.has_pops) in
-    rw (s.has_number, s.has_line, s.has_name, s.has_width, read, s.has_pops) (ap Some (sym s.means))
+    let number = number-complete 0 s.rest s.rest s.t1 s.number refl s.has_number in
+    let line = number-complete 1 s.rest s.t1 s.t2 s.line number.1 s.has_line in
+    let name = text-complete 2 s.rest s.t2 s.t3 s.name line.1 s.has_name in
+    let width = number-complete 3 s.rest s.t3 s.t4 s.width name.1 s.has_width in
+    let args = arguments-read file s.t4 s.args s.after s.has_arguments (pops-no_mark 60 s.after s.pops refl s.has_pops) (pops-end file s.after s.pops s.has_pops) in
+    let read : arguments_of file 0 (drop 4 s.rest) ≡ Some (s.args, s.after) = ap (arguments_of file 0) width.1 ∙ args in
+    let pops = pops-complete s.after s.pops s.has_pops in
+    rw (number.0, line.0, name.0, width.0, read, pops) (ap Some (sym s.means))
 
 -- a function call that is read is spelled
 pub function-spelled : (file : List ℕ) (word : Spanned) (rest : List Spanned) (opcode : Op Name) → is_function (bytes_of file (span_of word)) ≡ true → function_of file rest ≡ Some opcode → SpellsFunction file (word ∷ rest) opcode
@@ -159,20 +157,24 @@ function-spelled file word rest opcode spelled h =
     record {
       word = word;
       rest = rest;
+      t1 = drop 1 rest;
+      t2 = drop 2 rest;
+      t3 = drop 3 rest;
+      t4 = drop 4 rest;
+      after = read.0.1;
       number = number.0;
       line = line.0;
       name = name.0;
       width = width.0;
       args = read.0.0;
-      after = read.0.1;
       pops = pops.0;
       begins = refl;
-      is_spelled = spelled;
-      has_number = number.1;
-      has_line = line.1;
-      has_name = name.1;
-      has_width = width.1;
+      is_spelled = function_word-sound (bytes_of file (span_of word)) spelled;
+      has_number = number-sound 0 rest number.0 number.1;
+      has_line = number-sound 1 rest line.0 line.1;
+      has_name = text-sound 2 rest name.0 name.1;
+      has_width = number-sound 3 rest width.0 width.1;
       has_arguments = arguments-spelled file read.0.0 (drop 4 rest) read.0.1 read.1;
-      has_pops = pops.1;
+      has_pops = pops-sound read.0.1 pops.0 pops.1;
       means = cc;
     }

@@ -4,5 +4,12 @@ pub mod SpellsLemmas
 pub mod StatementLemmas
 pub mod TokenLemmas
 pub mod VectorLemmas
+pub mod PlaceLemmas
+pub mod OperandSpells
+pub mod RowSpells
+pub mod ArgumentSpells
+pub mod VectorSpells
+pub mod ArgumentLaw
+pub mod PopsSpells
 pub mod CallLemmas
 pub mod CallSpells

@@ -13,6 +13,9 @@ use Rattle.vvp_ops.specs.Table.{Row, rows, row_spelled, opcode_of}
 use Rattle.vvp_ops.specs.Operands.{operands_of}
 use Rattle.vvp_ops.specs.Calls.{is_task, is_function, task_of, function_of}
 use Rattle.vvp_ops.specs.Grammar.{known, read_row, read_word, read_tokens}
+use Rattle.vvp_ops.proofs.OperandSpells.{is_absent}
+use Rattle.vvp_ops.proofs.RowSpells.{is_formed, operands-sound, operands-complete}
+use Rattle.vvp_ops.proofs.PopsSpells.{task_word-complete, function_word-complete}
 use Rattle.vvp_ops.proofs.CallSpells.{task-read, task-spelled, function-read, function-spelled}
 use Rattle.vvp_ops.specs.Spells.{SpellsRow, SpellsTask, SpellsFunction, Spells}
 
@@ -86,6 +89,25 @@ apart-contains row at =
     let P : Row → Type 0 = λ r. (is_task r.0 || is_function r.0) ≡ false in
     subst P at.2 (apart-at rows at.0 row rows-apart at.1)
 
+-- in no row of a table an operand stands after one that is absent
+abbrev pub are_formed : List Row → Bool
+are_formed [] = true
+are_formed (row ∷ more) = is_formed (is_absent row.1.0) (is_absent row.1.1) (is_absent row.1.2) && are_formed more
+
+pub rows-formed : are_formed rows ≡ true
+unfolding rows
+rows-formed = refl
+
+formed-at : (table : List Row) (k : ℕ) (default : Row) → are_formed table ≡ true → k < length table → let row = get_or table k default in is_formed (is_absent row.1.0) (is_absent row.1.1) (is_absent row.1.2) ≡ true
+formed-at [] k default h lt = absurd (omega arith)
+formed-at (row ∷ more) zero default h lt = both-left _ _ h
+formed-at (row ∷ more) (suc k) default h lt = formed-at more k default (both-right _ _ h) (omega arith)
+
+formed-contains : (row : Row) → Contains rows row → is_formed (is_absent row.1.0) (is_absent row.1.1) (is_absent row.1.2) ≡ true
+formed-contains row at =
+    let P : Row → Type 0 = λ r. is_formed (is_absent r.1.0) (is_absent r.1.1) (is_absent r.1.2) ≡ true in
+    subst P at.2 (formed-at rows at.0 row rows-formed at.1)
+
 -- the word of a function call is none of a task call
 function-no_task : (word : List ℕ) → is_function word ≡ true → is_task word ≡ false
 unfolding is_task is_function
@@ -114,15 +136,17 @@ read-row file tokens opcode s =
     let no_task : is_task word ≡ false = ap is_task (sym s.is_spelled) ∙ neither-left _ _ no_call in
     let no_function : is_function word ≡ false = ap is_function (sym s.is_spelled) ∙ neither-right _ _ no_call in
     let found : row_spelled rows word ≡ Some s.row = ap (row_spelled rows) (sym s.is_spelled) ∙ row_spelled-contains rows s.row rows-distinct s.in_table in
-    ap (read_tokens file) s.begins ∙ read_word-row file word s.rest no_task no_function ∙ ap (λ row. read_row word row s.rest) found ∙ ap (λ values. known (option_map (opcode_of s.row.2) values)) s.has_operands ∙ ap Ok (sym s.means)
+    let operands = operands-complete s.row.1 s.rest s.values (formed-contains s.row s.in_table) s.has_operands in
+    ap (read_tokens file) s.begins ∙ read_word-row file word s.rest no_task no_function ∙ ap (λ row. read_row word row s.rest) found ∙ ap (λ values. known (option_map (opcode_of s.row.2) values)) operands ∙ ap Ok (sym s.means)
 
 read-task : (file : List ℕ) (tokens : List Spanned) (opcode : Op Name) → SpellsTask file tokens opcode → read_tokens file tokens ≡ Ok opcode
 read-task file tokens opcode s =
-    ap (read_tokens file) s.begins ∙ read_word-task file (bytes_of file (span_of s.word)) s.rest s.is_spelled ∙ ap known (task-read file tokens opcode s)
+    ap (read_tokens file) s.begins ∙ read_word-task file (bytes_of file (span_of s.word)) s.rest (task_word-complete _ s.is_spelled) ∙ ap known (task-read file tokens opcode s)
 
 read-function : (file : List ℕ) (tokens : List Spanned) (opcode : Op Name) → SpellsFunction file tokens opcode → read_tokens file tokens ≡ Ok opcode
 read-function file tokens opcode s =
-    ap (read_tokens file) s.begins ∙ read_word-function file (bytes_of file (span_of s.word)) s.rest (function-no_task _ s.is_spelled) s.is_spelled ∙ ap known (function-read file tokens opcode s)
+    let spelled = function_word-complete _ s.is_spelled in
+    ap (read_tokens file) s.begins ∙ read_word-function file (bytes_of file (span_of s.word)) s.rest (function-no_task _ spelled) spelled ∙ ap known (function-read file tokens opcode s)
 
 -- what tokens spell is what they are read as
 pub read-spelled : (file : List ℕ) (tokens : List Spanned) (opcode : Op Name) → Spells file tokens opcode → read_tokens file tokens ≡ Ok opcode
@@ -153,7 +177,7 @@ spells_values : (file : List ℕ) (word : Spanned) (rest : List Spanned) (opcode
 spells_values file word rest opcode row None found e h = cc
 spells_values file word rest opcode row (Some values) found e h =
     let at = row_spelled-found rows (bytes_of file (span_of word)) row found in
-    record { word = word; rest = rest; row = row; values = values; begins = refl; in_table = at.0; is_spelled = at.1; has_operands = e; means = cc }
+    record { word = word; rest = rest; row = row; values = values; begins = refl; in_table = at.0; is_spelled = at.1; has_operands = operands-sound row.1 rest values e; means = cc }
 
 spells_row : (file : List ℕ) (word : Spanned) (rest : List Spanned) (opcode : Op Name) (found : Option Row) → row_spelled rows (bytes_of file (span_of word)) ≡ found → read_row (bytes_of file (span_of word)) found rest ≡ Ok opcode → SpellsRow file (word ∷ rest) opcode
 spells_row file word rest opcode None e h = cc

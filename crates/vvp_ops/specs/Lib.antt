@@ -6,5 +6,6 @@ pub mod Calls
 pub mod Unsupported
 pub mod Grammar
 pub mod Statement
+pub mod Spelled
 pub mod Spells
 pub mod Ranges

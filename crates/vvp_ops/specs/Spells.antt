@@ -1,8 +1,10 @@
--- Which opcodes a list of tokens, those of a statement after its label, spells.
-use Rattle.std.specs.Prelude.{◌≡◌, ℕ, true, List, [], ◌∷◌, drop, Some, ◌⊎◌}
+-- Which opcodes a list of tokens, those of a statement after its label, spells. In a record `rest` is what stands after
+-- the word, t1 what stands after one token more, and so on.
+use Rattle.std.specs.Prelude.{◌≡◌, ℕ, List, ◌∷◌, ◌⊎◌}
 use Rattle.std.specs.List.{Contains}
 use Rattle.vvp_lex.specs.declared.types.Name.{Name}
 use Rattle.vvp_lex.specs.declared.types.Spanned.{Spanned}
+use Rattle.vvp_lex.specs.declared.types.Token.TheVariants as token
 use Rattle.vvp_lex.specs.declared.types.FormFault.{FormFault}
 use Rattle.vvp_lex.specs.declared.types.FormFault.TheVariants as fault
 use Rattle.vvp_lex.specs.Unescaped.{text_of}
@@ -10,11 +12,9 @@ use Rattle.vvp_ops.specs.declared.args.Arg.{Arg}
 use Rattle.vvp_ops.specs.declared.op.Op.{Op}
 use Rattle.vvp_ops.specs.declared.op.Op.TheVariants as o
 use Rattle.vvp_ops.specs.declared.operand.Operand.{Operand}
-use Rattle.vvp_ops.specs.Tokens.{span_of, bytes_of, number_at, text_at, mark_at}
+use Rattle.vvp_ops.specs.Tokens.{span_of, bytes_of}
 use Rattle.vvp_ops.specs.Table.{Row, rows, opcode_of}
-use Rattle.vvp_ops.specs.Operands.{operands_of}
-use Rattle.vvp_ops.specs.Arguments.{argument_at, tokens_in}
-use Rattle.vvp_ops.specs.Calls.{is_task, is_function, pops_of}
+use Rattle.vvp_ops.specs.Spelled.{OneAt, One, AreOperands, AreArguments, ArePops, IsTaskWord, IsFunctionWord}
 
 -- A row of the table has the first token's bytes, the other tokens are operands of its kinds with commas between them,
 -- and the opcode is the one that the row means with these operands.
@@ -26,33 +26,29 @@ pub record SpellsRow (file : List ℕ) (tokens : List Spanned) (opcode : Op Name
   pub begins : tokens ≡ word ∷ rest
   pub in_table : Contains rows row
   pub is_spelled : row.0 ≡ bytes_of file (span_of word)
-  pub has_operands : operands_of row.1 rest ≡ Some values
+  pub has_operands : AreOperands row.1 rest values
   pub means : opcode ≡ opcode_of row.2 values
-
--- these arguments, each after its comma, and then the tokens `after`
-abbrev pub SpellsArguments : List ℕ → List Spanned → List (Arg Name) → List Spanned → Type 0
-SpellsArguments file tokens [] after = tokens ≡ after
-SpellsArguments file tokens (arg ∷ args) after =
-    (mark_at tokens 0 44 ≡ Some tt) × (argument_at file (drop 1 tokens) ≡ Some arg)
-    × SpellsArguments file (drop (tokens_in arg) (drop 1 tokens)) args after
 
 -- The first token is a word of task calls, and after it come two numbers, a text, arguments and `{n 0 0}`.
 pub record SpellsTask (file : List ℕ) (tokens : List Spanned) (opcode : Op Name) : Type 0 where
   pub word : Spanned
   pub rest : List Spanned
+  pub t1 : List Spanned
+  pub t2 : List Spanned
+  pub t3 : List Spanned
+  pub after : List Spanned
   pub number : ℕ
   pub line : ℕ
   pub name : Name
   pub args : List (Arg Name)
-  pub after : List Spanned
   pub pops : ℕ
   pub begins : tokens ≡ word ∷ rest
-  pub is_spelled : is_task (bytes_of file (span_of word)) ≡ true
-  pub has_number : number_at rest 0 ≡ Some number
-  pub has_line : number_at rest 1 ≡ Some line
-  pub has_name : text_at rest 2 ≡ Some name
-  pub has_arguments : SpellsArguments file (drop 3 rest) args after
-  pub has_pops : pops_of after ≡ Some pops
+  pub is_spelled : IsTaskWord (bytes_of file (span_of word))
+  pub has_number : One (token.Number number) rest t1
+  pub has_line : One (token.Number line) t1 t2
+  pub has_name : OneAt token.Text t2 t3 name
+  pub has_arguments : AreArguments file t3 args after
+  pub has_pops : ArePops after pops
   pub means : opcode ≡ o.CallTask number line (text_of file name) args pops
 
 -- The first token is the word of function calls, and after it come two numbers, a text, a width, arguments and
@@ -60,21 +56,25 @@ pub record SpellsTask (file : List ℕ) (tokens : List Spanned) (opcode : Op Nam
 pub record SpellsFunction (file : List ℕ) (tokens : List Spanned) (opcode : Op Name) : Type 0 where
   pub word : Spanned
   pub rest : List Spanned
+  pub t1 : List Spanned
+  pub t2 : List Spanned
+  pub t3 : List Spanned
+  pub t4 : List Spanned
+  pub after : List Spanned
   pub number : ℕ
   pub line : ℕ
   pub name : Name
   pub width : ℕ
   pub args : List (Arg Name)
-  pub after : List Spanned
   pub pops : ℕ
   pub begins : tokens ≡ word ∷ rest
-  pub is_spelled : is_function (bytes_of file (span_of word)) ≡ true
-  pub has_number : number_at rest 0 ≡ Some number
-  pub has_line : number_at rest 1 ≡ Some line
-  pub has_name : text_at rest 2 ≡ Some name
-  pub has_width : number_at rest 3 ≡ Some width
-  pub has_arguments : SpellsArguments file (drop 4 rest) args after
-  pub has_pops : pops_of after ≡ Some pops
+  pub is_spelled : IsFunctionWord (bytes_of file (span_of word))
+  pub has_number : One (token.Number number) rest t1
+  pub has_line : One (token.Number line) t1 t2
+  pub has_name : OneAt token.Text t2 t3 name
+  pub has_width : One (token.Number width) t3 t4
+  pub has_arguments : AreArguments file t4 args after
+  pub has_pops : ArePops after pops
   pub means : opcode ≡ o.CallFunction number line (text_of file name) width args pops
 
 -- a row of the table, a task call or a function call

@@ -18,8 +18,9 @@ run-shows n program old new start same follows =
 abbrev with_ending : List ℕ → Outcome → Whole
 with_ending output ending = record { ending = ending; output = output }
 
--- what an engine that was loaded shows after its run is the program's run
-pub run-whole : (program : EarlyProgram) (old new : Shown) (outcome : Outcome) (ending : Option Ending) → Agree old.machine (start_of program) → old.program ≡ program → Follows (run_from old.program budget) old new → outcome ≡ ended ending → ending ≡ new.machine.ending → run_of program ≡ record { ending = outcome; output = new.machine.tasks.out }
+-- what an engine that was loaded shows after its run for the budget is the program's run
+pub run-whole : (steps : ℕ) (program : EarlyProgram) (old new : Shown) (outcome : Outcome) (ending : Option Ending) → steps ≡ budget → Agree old.machine (start_of program) → old.program ≡ program → Follows (run_from old.program steps) old new → outcome ≡ ended ending → ending ≡ new.machine.ending → run_of program ≡ record { ending = outcome; output = new.machine.tasks.out }
 unfolding run_of
-run-whole program old new outcome ending start same follows is answer =
-    run-shows budget program old new start same follows ∙ ap (with_ending new.machine.tasks.out) (sym (is ∙ ap ended answer))
+run-whole steps program old new outcome ending all start same follows is answer =
+    let run : Follows (run_from old.program budget) old new = subst (λ (n : ℕ). Follows (run_from old.program n) old new) all follows in
+    run-shows budget program old new start same run ∙ ap (with_ending new.machine.tasks.out) (sym (is ∙ ap ended answer))

@@ -1,8 +1,8 @@
-use Rattle.std.proofs.Common.{rules, ◌≡◌, ◌+◌, ◌≤◌, ◌∙◌, Some, ℕ, true, refl, sym, subst, arith}
+use Rattle.std.proofs.Common.{◌≡◌, ◌+◌, ◌≤◌, ◌∙◌, ℕ, refl, sym, subst, arith}
 use Rattle.std.proofs.lemmas.Result.{err_from_is_err_and, on_err_weaker, on_ok_weaker}
 use Rattle.sim_core.specs.declared.program.EarlyProgram.{EarlyProgram}
 use Rattle.sim_core.specs.Engine.{Fails, Follows}
-use Rattle.sim_core.specs.Machine.{after, is_idle, step}
+use Rattle.sim_core.specs.Machine.{after, step}
 use Rattle.sim_core.proofs.Runs.{after-more, after-none, run-ended, run-fails, run-idle, run-idle-fails}
 use Rattle.sim_core.proofs.budget.run.Goals as goal
 

@@ -1,4 +1,4 @@
-use Rattle.std.proofs.Common.{rules, ◌≡◌, ℕ, ap, ◌∙◌, arith}
+use Rattle.std.proofs.Common.{ap, ◌∙◌, arith}
 use Rattle.event_pool.specs.Schedule.{Schedule}
 use Rattle.sim_core.proofs.Starts.{put-more}
 use Rattle.sim_core.proofs.engine.put_starts.Goals as goal

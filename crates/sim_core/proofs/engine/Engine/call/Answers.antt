@@ -1,4 +1,4 @@
-use Rattle.std.proofs.Common.{rules, ◌≡◌, ◌∙◌, ap, refl, Some, sym, subst, IsTrue, ℕ, List, ◌++◌}
+use Rattle.std.proofs.Common.{◌≡◌, refl, Some, sym, subst, IsTrue, ℕ, List, ◌++◌}
 use Rattle.std.specs.List.{slice_get}
 use Rattle.std.proofs.lemmas.Result.{err_from_is_err_and}
 use Rattle.sim_core.specs.Engine.{with_dues}

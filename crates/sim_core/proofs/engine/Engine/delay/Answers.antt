@@ -1,9 +1,9 @@
-use Rattle.std.proofs.Common.{rules, ◌≡◌, ℕ, ◌+◌, ◌<◌, ◌^◌, None, Some, refl, sym, ◌∙◌, ap, subst, List, [], ◌∷◌, ◌++◌, arith, true, false, nat_lt, cond, map, eq-eqb}
+use Rattle.std.proofs.Common.{◌≡◌, ℕ, ◌+◌, ◌<◌, ◌^◌, refl, sym, ◌∙◌, ap, subst, [], ◌∷◌, ◌++◌, arith, map, eq-eqb}
 use Rattle.std.proofs.lemmas.Bool.{lt-ltb}
 use Rattle.event_pool.specs.declared.agenda.Due.{Due}
 use Rattle.event_pool.specs.declared.agenda.Act.TheVariants.{Run}
 use Rattle.event_pool.specs.Order.{in_order}
-use Rattle.sim_core.specs.Engine.{IsKeyed, unkeyed}
+use Rattle.sim_core.specs.Engine.{unkeyed}
 use Rattle.sim_core.specs.Machine.{delay_region, run_of}
 use denote.Param.{param}
 use Rattle.sim_core.specs.contracts.engine.Engine.{the_view}

@@ -1,10 +1,10 @@
-use Rattle.std.proofs.Common.{rules, ◌≡◌, ◌∙◌, ap, sym, subst, refl, arith, length, map, ℕ, None, List}
+use Rattle.std.proofs.Common.{◌≡◌, ◌∙◌, ap, sym, subst, length, map, ℕ, List}
 use Rattle.std.proofs.lemmas.List.{length-map}
 use Rattle.event_pool.specs.Order.{in_order}
 use Rattle.event_pool.specs.declared.agenda.Due.{Due}
 use Rattle.std.specs.List.{All}
 use Rattle.sim_core.specs.Engine.{IsKeyed}
-use Rattle.sim_core.specs.Start.{frame_at, keyed_runs, start_of, unknown}
+use Rattle.sim_core.specs.Start.{frame_at, keyed_runs, unknown}
 use Rattle.sim_core.proofs.Starts.{start-agrees, starts-keyed}
 use Rattle.sim_core.proofs.engine.Engine.load.Goals as goal
 

@@ -1,11 +1,6 @@
-use Rattle.std.proofs.Common.{rules, ◌≡◌, ℕ, ◌≤◌, Bool, List, refl, sym, ◌∙◌, ap, subst, arith, map}
-use Rattle.std.specs.List.{All}
-use Rattle.event_pool.specs.declared.agenda.Due.{Due}
-use Rattle.event_pool.specs.declared.agenda.Settled.{Settled}
+use Rattle.std.proofs.Common.{refl, sym, ◌∙◌, ap}
 use Rattle.event_pool.specs.declared.agenda.Region.TheVariants.{Active}
-use Rattle.event_pool.specs.Order.{in_order}
-use Rattle.event_pool.specs.Schedule.{Schedule, least_time, settled_dues, settled_of}
-use Rattle.sim_core.specs.Engine.{IsKeyed, is_ready_state, unkeyed}
+use Rattle.sim_core.specs.Engine.{is_ready_state}
 use Rattle.sim_core.proofs.Keyed.{settle-keyed}
 use Rattle.sim_core.proofs.Keys.{any-unkeyed}
 use Rattle.sim_core.proofs.Settling.{ready-empty, ready-later, ready-now, state-ready}

@@ -1,7 +1,7 @@
-use Rattle.std.proofs.Common.{rules, ◌≡◌, ℕ, ◌≤◌, ◌<◌, Some, None, Option, List, refl, sym, ◌∙◌, ap, subst, arith, length, true, IsTrue}
+use Rattle.std.proofs.Common.{◌≡◌, ℕ, ◌≤◌, Some, None, Option, List, refl, sym, ◌∙◌, ap, subst, length, true, IsTrue}
 use Rattle.std.specs.List.{slice_get}
 use Rattle.std.proofs.lemmas.Option.{slice_get_past}
-use Rattle.std.proofs.lemmas.Result.{err_from_is_err_and, on_ok_weaker, on_err_weaker}
+use Rattle.std.proofs.lemmas.Result.{on_ok_weaker, on_err_weaker}
 use Rattle.four_state.specs.declared.bits.Bit.{Bit}
 use Rattle.sim_core.specs.declared.opcodes.Effect.{Effect}
 use Rattle.sim_core.specs.declared.ending.Frame.{Frame}

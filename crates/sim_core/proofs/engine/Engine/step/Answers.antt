@@ -1,7 +1,5 @@
-use Rattle.std.proofs.Common.{rules, ◌≡◌, Some, None, Option, ℕ, refl, sym, ◌∙◌, ap, subst}
-use Rattle.sim_core.specs.declared.ending.Ending.{Ending}
-use Rattle.sim_core.specs.Engine.{Follows, Shown}
-use Rattle.sim_core.specs.Machine.{step}
+use Rattle.std.proofs.Common.{◌≡◌, None, sym, ◌∙◌, ap}
+use Rattle.sim_core.specs.Engine.{Shown}
 use Rattle.sim_core.proofs.Steps.{step-refused, step-running, step-taken, step-waiting}
 use Rattle.sim_core.proofs.engine.Engine.step.Goals as goal
 use Rattle.sim_core.proofs.engine.Engine.step.Goals.{in-Some-running+in-Ok, in-None+then-ready, in-None+else-ready}

@@ -1,6 +1,5 @@
-use Rattle.std.proofs.Common.{rules, ◌≡◌, ℕ, ◌+◌, ◌≤◌, Some, None, refl, sym, ◌∙◌, ap, subst, arith, map}
+use Rattle.std.proofs.Common.{refl, sym, ◌∙◌, arith}
 use Rattle.event_pool.specs.declared.agenda.Region.TheVariants.{Active}
-use Rattle.sim_core.specs.Engine.{IsKeyed}
 use Rattle.sim_core.proofs.Keyed.{first-keyed, take-keyed}
 use Rattle.sim_core.proofs.Keys.{any-unkeyed}
 use Rattle.sim_core.proofs.Settling.{active-some, taken-agrees}
