@@ -5,8 +5,9 @@ use Rattle.vvp_lex.specs.declared.types.Name.{Name}
 use Rattle.vvp_lex.specs.declared.types.Spanned.{Spanned}
 use Rattle.vvp_lex.specs.declared.types.Token.{Token}
 use Rattle.vvp_lex.specs.declared.types.Token.TheVariants as token
-use Rattle.vvp_forms.specs.Tokens.{◌>>=◌, span_of, is_mark, is_mark_at, number_in, number_at, word_in, word_at, text_in, text_at}
-use Rattle.vvp_forms.specs.Pieces.{IsToken, IsMark, NoMark, IsNumber, IsTextAt, IsWordAt}
+use Rattle.vvp_lex.specs.Place.{◌>>=◌, span_of, is_mark, number_in, number_at, word_in, word_at, text_in, text_at, Begins}
+use Rattle.vvp_forms.specs.Tokens.{is_mark_at}
+use Rattle.vvp_forms.specs.Pieces.{IsMark, NoMark, IsNumber, IsTextAt, IsWordAt}
 
 pub some_inj : {A : Type 0} (x y : A) → Some x ≡ Some y → x ≡ y
 some_inj x y e = cc
@@ -117,5 +118,5 @@ text-next [] place = refl
 text-next (first ∷ tokens) place = refl
 
 -- one token is passed
-pub drop-one : (kind : Token) (tokens rest : List Spanned) → IsToken kind tokens rest → drop 1 tokens ≡ rest
+pub drop-one : (kind : Token) (tokens rest : List Spanned) → Begins kind tokens rest → drop 1 tokens ≡ rest
 drop-one kind tokens rest one = ap (drop 1) one.1

@@ -6,6 +6,5 @@ pub mod PiecesLaw
 pub mod Rows
 pub mod SpellsLemmas
 pub mod TextLemmas
-pub mod TokenLemmas
 pub mod VectorLemmas
 pub mod Words

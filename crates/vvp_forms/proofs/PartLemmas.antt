@@ -10,7 +10,8 @@ use Rattle.vvp_lex.specs.declared.types.Token.{Token}
 use Rattle.vvp_lex.specs.declared.types.Token.TheVariants as token
 use Rattle.vvp_forms.specs.declared.form.Port.{Port}
 use Rattle.vvp_forms.specs.declared.form.Port.TheVariants as port
-use Rattle.vvp_forms.specs.Tokens.{◌>>=◌, span_of, bytes_of, is_mark, is_mark_at, number_at, word_in, word_at}
+use Rattle.vvp_lex.specs.Place.{◌>>=◌, span_of, bytes_of, is_mark, number_at, word_in, word_at}
+use Rattle.vvp_forms.specs.Tokens.{is_mark_at}
 use Rattle.vvp_forms.specs.Numbers.{size_at, integer_at, power_at}
 use Rattle.vvp_forms.specs.Ports.{constant_of, between, port_in, port_at}
 use Rattle.vvp_forms.specs.Operands.{symbols_of, symbols_after, with_name, drives_at}

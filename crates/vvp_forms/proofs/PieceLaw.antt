@@ -11,7 +11,8 @@ use Rattle.vvp_forms.specs.declared.form.Port.{Port}
 use Rattle.vvp_forms.specs.declared.table.Piece.{Piece}
 use Rattle.vvp_forms.specs.declared.table.Piece.TheVariants as piece
 use Rattle.vvp_forms.specs.declared.pieces.Operands.{Operands}
-use Rattle.vvp_forms.specs.Tokens.{◌>>=◌, is_mark_at, number_at, word_at, text_at}
+use Rattle.vvp_lex.specs.Place.{◌>>=◌, number_at, word_at, text_at}
+use Rattle.vvp_forms.specs.Tokens.{is_mark_at}
 use Rattle.vvp_forms.specs.Numbers.{integer_at, power_at}
 use Rattle.vvp_forms.specs.Ports.{port_at}
 use Rattle.vvp_forms.specs.Operands.{symbols_of, drives_at, piece_at}

@@ -8,9 +8,9 @@ use Rattle.vvp_lex.specs.declared.types.Token.{Token}
 use Rattle.vvp_forms.specs.declared.table.Piece.{Piece}
 use Rattle.vvp_forms.specs.declared.table.Piece.TheVariants as piece
 use Rattle.vvp_forms.specs.declared.pieces.Operands.{Operands}
-use Rattle.vvp_forms.specs.Tokens.{◌>>=◌}
+use Rattle.vvp_lex.specs.Place.{◌>>=◌, Begins}
 use Rattle.vvp_forms.specs.Operands.{piece_at, ends_before, pieces_at}
-use Rattle.vvp_forms.specs.Pieces.{IsToken, IsInteger, AreSymbols, IsPiece, EndsAt, ArePieces}
+use Rattle.vvp_forms.specs.Pieces.{IsInteger, AreSymbols, IsPiece, EndsAt, ArePieces}
 use Rattle.vvp_forms.proofs.FrontLemmas.{some_inj, bind_some}
 use Rattle.vvp_forms.proofs.PieceLaw.{piece-sound, piece-complete}
 
@@ -25,7 +25,7 @@ ends-complete piece.MayEnd tokens is = rw is refl
 ends-complete _ tokens is = absurd is
 
 -- where no token is left
-no-token : (kind : Token) (tokens rest : List Spanned) → tokens ≡ [] → IsToken kind tokens rest → ⊥
+no-token : (kind : Token) (tokens rest : List Spanned) → tokens ≡ [] → Begins kind tokens rest → ⊥
 no-token kind tokens rest none one = let same : [] ≡ one.0 ∷ rest = sym none ∙ one.1 in absurd (cc)
 
 no-symbols : (names : List Name) (tokens : List Spanned) → tokens ≡ [] → AreSymbols names tokens → ⊥

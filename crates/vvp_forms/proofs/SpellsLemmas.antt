@@ -17,12 +17,14 @@ use Rattle.vvp_forms.specs.declared.table.Label.TheVariants as label
 use Rattle.vvp_forms.specs.declared.table.Row.{Row}
 use Rattle.vvp_forms.specs.declared.table.Row.TheVariants as row
 use Rattle.vvp_forms.specs.declared.pieces.Operands.{Operands}
-use Rattle.vvp_forms.specs.Tokens.{span_of, bytes_of, is_mark_at}
+use Rattle.vvp_lex.specs.Place.{span_of, bytes_of}
+use Rattle.vvp_forms.specs.Tokens.{is_mark_at}
 use Rattle.vvp_forms.specs.Table.{Spelling, rows, fits, row_spelled, label_of, pieces_of}
 use Rattle.vvp_forms.specs.Operands.{no_operands, pieces_at}
 use Rattle.vvp_forms.specs.Checks.{◌>>=◌, needed}
 use Rattle.vvp_forms.specs.Forms.{Answer, form_of}
-use Rattle.vvp_forms.specs.Reading.{is_label, row_or, row_of, label_fits, form_at, after_label, form_spelled, Answers}
+use Rattle.vvp_lex.specs.Label.{is_label}
+use Rattle.vvp_forms.specs.Reading.{row_or, row_of, label_fits, form_at, after_label, form_spelled, Answers}
 use Rattle.vvp_forms.proofs.PiecesLaw.{pieces-sound, pieces-complete}
 use Rattle.vvp_forms.specs.Spells.{IsRow, LabelIs, SpellsRow, SpellsFirst, Spells, SpellsOnly, SpellsNone}
 

@@ -9,7 +9,7 @@ use Rattle.vvp_lex.specs.declared.types.Token.{Token}
 use Rattle.vvp_lex.specs.declared.types.Token.TheVariants as token
 use Rattle.vvp_lex.specs.Unescaped.{IsText}
 use Rattle.vvp_lex.specs.Statement.{statements_of, tokens_of}
-use Rattle.vvp_forms.specs.Tokens.{◌>>=◌, IsTextOf, text_in, text_at, span_of}
+use Rattle.vvp_lex.specs.Place.{◌>>=◌, IsTextOf, text_in, text_at, span_of}
 
 text-IsText : (file : List ℕ) (found : Option Spanned) (name : Name) → IfSome found (IsTextOf file) → (found >>= λ first. text_in first.token (span_of first)) ≡ Some name → IsText file name
 unfolding IsTextOf

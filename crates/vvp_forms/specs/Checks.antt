@@ -7,7 +7,7 @@ use Rattle.vvp_lex.specs.declared.types.FormKind.TheVariants as fault
 use Rattle.vvp_forms.specs.declared.form.Range.{Range}
 use Rattle.vvp_forms.specs.declared.form.Port.{Port}
 use Rattle.vvp_forms.specs.declared.form.Port.TheVariants as port
-use Rattle.vvp_forms.specs.Tokens.{bytes_of}
+use Rattle.vvp_lex.specs.Place.{bytes_of}
 
 -- the first test that fails says the kind
 infixl 10 ◌>>=◌

@@ -22,7 +22,7 @@ use Rattle.vvp_forms.specs.declared.form.Form.TheVariants as form
 use Rattle.vvp_forms.specs.declared.table.Row.{Row}
 use Rattle.vvp_forms.specs.declared.table.Row.TheVariants as row
 use Rattle.vvp_forms.specs.declared.pieces.Operands.{Operands}
-use Rattle.vvp_forms.specs.Tokens.{bytes_of}
+use Rattle.vvp_lex.specs.Place.{bytes_of}
 use Rattle.vvp_forms.specs.Choices.{scope_kind, functor_type, resolution, edge_kind, start_kind}
 use Rattle.vvp_forms.specs.Checks.{◌>>=◌, allowed, needed, kind_needed, is_used, is_symbol, used, not_wide, width, power, range}
 

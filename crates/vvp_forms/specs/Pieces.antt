@@ -3,7 +3,6 @@
 use Rattle.std.specs.Prelude.{◌≡◌, ℕ, ◌<◌, ◌^◌, ℤ, pos, neg_ℤ, true, List, [], ◌∷◌, slice_set, ◌⊎◌, Some}
 use Rattle.vvp_lex.specs.declared.types.Name.{Name}
 use Rattle.vvp_lex.specs.declared.types.Spanned.{Spanned}
-use Rattle.vvp_lex.specs.declared.types.Token.{Token}
 use Rattle.vvp_lex.specs.declared.types.Token.TheVariants as token
 use Rattle.vvp_lex.specs.Unescaped.{text_of}
 use Rattle.vvp_forms.specs.declared.form.Port.{Port}
@@ -11,7 +10,7 @@ use Rattle.vvp_forms.specs.declared.form.Port.TheVariants as port
 use Rattle.vvp_forms.specs.declared.table.Piece.{Piece}
 use Rattle.vvp_forms.specs.declared.table.Piece.TheVariants as piece
 use Rattle.vvp_forms.specs.declared.pieces.Operands.{Operands}
-use Rattle.vvp_forms.specs.Tokens.{span_of, bytes_of}
+use Rattle.vvp_lex.specs.Place.{bytes_of, Begins, BeginsAt}
 use Rattle.vvp_forms.specs.Ports.{constant_of, between}
 
 -- what stands at the front of a list of tokens, and the rest after it
@@ -27,18 +26,9 @@ first >> second = λ tokens rest. (middle : List Spanned) × first tokens middle
 abbrev pub IsNothing : Front
 IsNothing tokens rest = tokens ≡ rest
 
--- a token of this kind
-abbrev pub IsToken : Token → Front
-IsToken kind tokens rest = (first : Spanned) × (tokens ≡ first ∷ rest) × (first.token ≡ kind)
-
--- a token of this kind, which lies at `name` in the file
-abbrev pub IsTokenAt : Token → Name → Front
-IsTokenAt kind name tokens rest =
-    (first : Spanned) × (tokens ≡ first ∷ rest) × (first.token ≡ kind) × (name ≡ span_of first)
-
 -- this mark
 abbrev pub IsMark : ℕ → Front
-IsMark byte = IsToken (token.Punct byte)
+IsMark byte = Begins (token.Punct byte)
 
 -- the first token, if there is one, isn't this mark
 abbrev pub NoMark : ℕ → List Spanned → Type 0
@@ -46,15 +36,15 @@ NoMark byte tokens = (rest : List Spanned) → ¬ IsMark byte tokens rest
 
 -- a number without a sign
 abbrev pub IsNumber : ℕ → Front
-IsNumber value = IsToken (token.Number value)
+IsNumber value = Begins (token.Number value)
 
 -- a text
 abbrev pub IsTextAt : Name → Front
-IsTextAt name = IsTokenAt token.Text name
+IsTextAt name = BeginsAt token.Text name
 
 -- a word: a symbol, or one that says a kind
 abbrev pub IsWordAt : Name → Front
-IsWordAt name = IsTokenAt token.Word name
+IsWordAt name = BeginsAt token.Word name
 
 -- a number of at most 2^31 - 1
 abbrev pub IsSize : ℕ → Front
@@ -91,7 +81,7 @@ AreDrives low high = IsMark 91 >> IsNumber low >> IsNumber high >> IsMark 93
 abbrev pub IsPort : List ℕ → Port → Front
 IsPort file found tokens rest =
     ((name : Name) × IsWordAt name tokens rest × (found ≡ port.Sym name))
-    ⊎ ((name : Name) × IsTokenAt token.Const name tokens rest × (constant_of (between (bytes_of file name)) ≡ Some found))
+    ⊎ ((name : Name) × BeginsAt token.Const name tokens rest × (constant_of (between (bytes_of file name)) ≡ Some found))
 
 -- A piece of a row. Its value goes into its slot: the operands are `before`, and then `after`.
 unfoldable pub IsPiece : List ℕ → Piece → Operands → Operands → Front

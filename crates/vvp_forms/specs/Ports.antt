@@ -8,7 +8,7 @@ use Rattle.vvp_lex.specs.declared.types.Token.TheVariants as token
 use Rattle.vvp_lex.specs.declared.types.Name.{Name}
 use Rattle.vvp_forms.specs.declared.form.Port.{Port}
 use Rattle.vvp_forms.specs.declared.form.Port.TheVariants as port
-use Rattle.vvp_forms.specs.Tokens.{◌>>=◌, span_of, bytes_of}
+use Rattle.vvp_lex.specs.Place.{◌>>=◌, span_of, bytes_of}
 
 -- the bit that a byte of a constant writes
 abbrev pub bit_of : ℕ → Bit

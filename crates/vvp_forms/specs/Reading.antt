@@ -1,6 +1,5 @@
 -- The form that the tokens of a statement spell, or the kind of its refusal.
-use Rattle.std.specs.Prelude.{◌≡◌, ℕ, Bool, true, false, ◌||◌, ◌&&◌, ◌==◌, List, [], ◌∷◌, Option, None, Some, Result, Ok, Err, slice_index, if◌then◌else◌}
-use Rattle.std.specs.Char.{is_ascii_alphabetic}
+use Rattle.std.specs.Prelude.{◌≡◌, ℕ, Bool, true, false, List, [], ◌∷◌, Option, None, Some, Result, Ok, Err, if◌then◌else◌}
 use Rattle.vvp_lex.specs.declared.types.Name.{Name}
 use Rattle.vvp_lex.specs.declared.types.Spanned.{Spanned}
 use Rattle.vvp_lex.specs.declared.types.Token.{Token}
@@ -15,25 +14,14 @@ use Rattle.vvp_forms.specs.declared.table.Label.{Label}
 use Rattle.vvp_forms.specs.declared.table.Label.TheVariants as label
 use Rattle.vvp_forms.specs.declared.table.Row.{Row}
 use Rattle.vvp_forms.specs.declared.table.Row.TheVariants as row
-use Rattle.vvp_forms.specs.Tokens.{span_of, bytes_of, is_mark_at}
+use Rattle.vvp_lex.specs.Label.{is_label}
+use Rattle.vvp_lex.specs.Place.{span_of, bytes_of}
+use Rattle.vvp_forms.specs.Tokens.{is_mark_at}
 use Rattle.vvp_forms.specs.Table.{rows, row_spelled, label_of, pieces_of}
 use Rattle.vvp_forms.specs.Unsupported.{is_unsupported}
 use Rattle.vvp_forms.specs.Operands.{no_operands, pieces_at}
 use Rattle.vvp_forms.specs.Forms.{Answer, form_of}
 use Rattle.vvp_forms.specs.Checks.{◌>>=◌, needed}
-
-abbrev pub is_word : Token → Bool
-is_word token.Word = true
-is_word _ = false
-
--- a letter, `_`, `$` or `\`
-abbrev pub is_label_first : ℕ → Bool
-is_label_first byte = is_ascii_alphabetic byte || byte == 95 || byte == 36 || byte == 92
-
--- whether a statement's first token is its label
-abbrev pub is_label : List ℕ → Bool → Spanned → Bool
-is_label file column_one first =
-    column_one && is_word first.token && is_label_first (slice_index file first.from)
 
 -- the row of a word, or why it has none
 abbrev pub row_or : List ℕ → Option Row → Result Row FormKind

@@ -12,12 +12,13 @@ use Rattle.vvp_forms.specs.declared.table.Label.TheVariants as label
 use Rattle.vvp_forms.specs.declared.table.Row.{Row}
 use Rattle.vvp_forms.specs.declared.table.Row.TheVariants as row
 use Rattle.vvp_forms.specs.declared.pieces.Operands.{Operands}
-use Rattle.vvp_forms.specs.Tokens.{span_of, bytes_of, is_mark_at}
+use Rattle.vvp_lex.specs.Place.{span_of, bytes_of}
+use Rattle.vvp_forms.specs.Tokens.{is_mark_at}
 use Rattle.vvp_forms.specs.Table.{Spelling, rows, fits, label_of, pieces_of}
 use Rattle.vvp_forms.specs.Operands.{no_operands}
 use Rattle.vvp_forms.specs.Pieces.{ArePieces}
 use Rattle.vvp_forms.specs.Forms.{form_of}
-use Rattle.vvp_forms.specs.Reading.{is_label}
+use Rattle.vvp_lex.specs.Label.{is_label}
 
 -- A spelling of the table has the word's bytes, and the second token after the word is as it says.
 pub record SpelledBy (file : List ℕ) (first : Spanned) (tokens : List Spanned) (found : Row) : Type 0 where

@@ -9,8 +9,7 @@ use crate::checks::{allowed, is_symbol, is_used, needed, not_wide, used, width};
 use crate::choices::{functor_type, resolution};
 use crate::form::{ArithmeticKind, CompareKind, Form, Gate, Port, ReduceKind, ShiftKind};
 use crate::pieces::Operands;
-use crate::tokens::bytes_of;
-use vvp_lex::FormKind;
+use vvp_lex::{FormKind, bytes_of};
 
 /// Whether one of the ports is used.
 fn any_used(ports: &[Port]) -> bool

@@ -9,8 +9,7 @@ use crate::choices::{edge_kind, scope_kind, start_kind};
 use crate::form::{Form, StartKind, VarKind, Within};
 use crate::gates::some_used;
 use crate::pieces::Operands;
-use crate::tokens::bytes_of;
-use vvp_lex::{FormKind, Name};
+use vvp_lex::{FormKind, Name, bytes_of};
 
 /// The unit of time of a tick.
 #[tactic(auto, unfolding(crate::specs::Forms::precision))]

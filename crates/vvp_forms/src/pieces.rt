@@ -4,16 +4,16 @@ ghost use Rattle.std.specs.Prelude.{◌≡◌, ◌≤◌, ◌^◌, [], All, IfOk
 ghost use Rattle.std.specs.Option.{option_map};
 ghost use Rattle.vvp_lex.specs.Unescaped.{text_of};
 ghost use Rattle.vvp_forms.specs.declared.table.Piece.TheVariants as piece;
-ghost use Rattle.vvp_forms.specs.Tokens.{IsTextOf, text_at};
+ghost use Rattle.vvp_lex.specs.Place.{IsTextOf, text_at};
 ghost use Rattle.vvp_forms.specs.Operands.{no_operands, symbols_of, drives_at, piece_at, ends_before, pieces_at};
 
 use crate::form::{Names, Port};
 use crate::numbers::{integer_at, power_at};
 use crate::ports::port_at;
 use crate::table::Piece;
-use crate::tokens::{is_mark_at, number_at, text_at, tokens_after, word_at};
+use crate::tokens::is_mark_at;
 use std::alloc::{AllocError, Global};
-use vvp_lex::{Bytes, Name, Spanned, text_bytes};
+use vvp_lex::{Bytes, Name, Spanned, number_at, text_at, text_bytes, tokens_after, word_at};
 
 /// The values of a row's operands, each in the slot that its piece names.
 #[derive(Drop)]

@@ -4,9 +4,8 @@ ghost use Rattle.std.specs.Prelude.{◌≡◌, ◌<◌, ◌++◌, ◌∷◌, [],
 ghost use Rattle.vvp_forms.specs.Ports.{bit_of, between, constant_of, port_at};
 
 use crate::form::Port;
-use crate::tokens::{bytes_after, bytes_of, span};
 use four_state::{Bit, Vec4};
-use vvp_lex::{Spanned, Token};
+use vvp_lex::{Spanned, Token, bytes_after, bytes_of, span};
 
 /// The widest vector, in bits.
 const MOST_BITS: usize = 128;

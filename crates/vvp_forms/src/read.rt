@@ -2,8 +2,8 @@
 
 ghost use Rattle.std.specs.Prelude.{◌≡◌, ◌≤◌, ◌^◌, All, Contains, IfOk, IfErr, length, Err};
 ghost use Rattle.vvp_lex.specs.Statement.{statements_of, tokens_of};
-ghost use Rattle.vvp_forms.specs.Tokens.{IsTextOf, span_of};
-ghost use Rattle.vvp_forms.specs.Reading.{is_word, is_label_first, is_label, row_or, row_of, label_fits, form_at, after_label, form_spelled, Answers};
+ghost use Rattle.vvp_lex.specs.Place.{IsTextOf, span_of};
+ghost use Rattle.vvp_forms.specs.Reading.{row_or, row_of, label_fits, form_at, after_label, form_spelled, Answers};
 ghost use Rattle.vvp_forms.specs.Spells.{SpellsOnly, SpellsNone};
 ghost use Rattle.vvp_forms.specs.Table.{rows, row_spelled};
 
@@ -11,34 +11,12 @@ use crate::form::Form;
 use crate::make::form_of;
 use crate::pieces::read_pieces;
 use crate::table::{Label, Row, label_of, pieces_of, row_for};
-use crate::tokens::{byte_at, bytes_of, is_mark_at, span, tokens_after};
+use crate::tokens::is_mark_at;
 use crate::unsupported::unsupported;
 use std::alloc::Global;
-use vvp_lex::{FormFault, FormKind, Spanned, Stmt, Token, tokens};
-
-/// Whether the token is a word.
-fn is_word(token: Token) -> bool
-    ensures { result ≡ is_word token }
-{
-    match token {
-        Token::Word => true,
-        _ => false,
-    }
-}
-
-/// Whether a label may begin with the byte: a letter, `_`, `$` or `\`.
-fn is_label_first(byte: u8) -> bool
-    ensures { result ≡ is_label_first byte }
-{
-    byte.is_ascii_alphabetic() || byte == b'_' || byte == b'$' || byte == b'\\'
-}
-
-/// Whether a statement's first token is its label.
-fn is_label(src: &[u8], column_one: bool, first: Spanned) -> bool
-    ensures { result ≡ is_label src.now column_one first }
-{
-    column_one && is_word(first.token) && is_label_first(byte_at(src, first.from as usize))
-}
+use vvp_lex::{
+    FormFault, FormKind, Spanned, Stmt, Token, bytes_of, is_label, span, tokens, tokens_after,
+};
 
 /// A row that was found for the word, or why there is none.
 fn row_or(word: &[u8], row: Option<Row>) -> Result<Row, FormKind>

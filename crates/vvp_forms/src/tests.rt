@@ -2,11 +2,10 @@
 
 use crate::form::{Form, Gate, Port, Range};
 use crate::read::read_form;
-use crate::tokens::bytes_of;
 use four_state::{Bit, Vec4};
 use std::alloc::AllocError;
 use std::test::Fail;
-use vvp_lex::{FormFault, FormKind, Name, statements};
+use vvp_lex::{FormFault, FormKind, Name, bytes_of, statements};
 
 /// A text that is spelled out: words with a space before each.
 #[derive(Drop)]

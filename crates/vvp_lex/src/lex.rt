@@ -4,6 +4,7 @@ ghost use Rattle.std.specs.Prelude.{◌≡◌, ◌<◌, ◌≤◌, ◌^◌, fals
 ghost use Rattle.vvp_lex.specs.Text.{blanked, is_line_feed, InLine};
 ghost use Rattle.vvp_lex.specs.Token.{text_len, tokens_from, faults_in};
 ghost use Rattle.vvp_lex.specs.Statement.{body_len, open_len, comment_len, statements_of, is_column_one, tokens_of, lexical, IsFault};
+ghost use Rattle.vvp_lex.specs.Longest.{AreLongest};
 
 use crate::scan::{gap_len, line_len, text_len, token_at};
 use crate::types::{LexFault, LexKind, Spanned, Stmt};
@@ -118,11 +119,13 @@ fn tokens_from(alloc: Global, text: &[u8], from: u32) -> Result<Vec<Spanned>, Al
     Ok(found)
 }
 
-/// The tokens of a statement that `statements` gave for the file, in order. The only error is want of memory.
+/// The tokens of a statement that `statements` gave for the file, in order, each the longest that fits at its place. The
+/// only error is want of memory.
 pub fn tokens(alloc: Global, src: &[u8], stmt: &Stmt) -> Result<Vec<Spanned>, AllocError>
     requires small { length src.now ≤ 2 ^ 26 }
     requires given { Contains (statements_of src.now) stmt.now }
-    ensures { IfOk result (λ found. found.items ≡ tokens_of src.now stmt.now) }
+    ensures value { IfOk result (λ found. found.items ≡ tokens_of src.now stmt.now) }
+    ensures longest { IfOk result (λ found. AreLongest src.now found.items) }
 {
     tokens_from(alloc, part_of(src, stmt.from, stmt.to), stmt.from)
 }

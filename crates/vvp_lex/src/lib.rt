@@ -6,12 +6,16 @@
 #![tactic(auto)]
 
 mod bytes;
+mod label;
 mod lex;
+mod place;
 mod scan;
 mod text;
 mod types;
 
+pub use label::{is_label, is_word};
 pub use lex::{part_of, statements, tokens};
+pub use place::{byte_at, bytes_after, bytes_of, number_at, span, text_at, tokens_after, word_at};
 pub use text::{Bytes, text_bytes};
 pub use types::{FormFault, FormKind, LexFault, LexKind, Name, Spanned, Stmt, Token};
 

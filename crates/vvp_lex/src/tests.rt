@@ -1,5 +1,7 @@
 use crate::{
-    Bytes, LexFault, LexKind, Name, Spanned, Stmt, Token, part_of, statements, text_bytes, tokens,
+    Bytes, LexFault, LexKind, Name, Spanned, Stmt, Token, byte_at, bytes_after, bytes_of, is_label,
+    is_word, number_at, part_of, span, statements, text_at, text_bytes, tokens, tokens_after,
+    word_at,
 };
 use std::test::Fail;
 
@@ -38,11 +40,7 @@ fn first_text(rt: &HostRuntime, src: &[u8]) -> Result<Option<Bytes>, Fail> {
     for stmt in &found {
         for spanned in &tokens(rt.alloc(), src, stmt)? {
             if let Token::Text = spanned.token {
-                let name = Name {
-                    from: spanned.from,
-                    to: spanned.to,
-                };
-                return Ok(Some(text_bytes(rt.alloc(), src, name)?));
+                return Ok(Some(text_bytes(rt.alloc(), src, span(*spanned))?));
             }
         }
     }
@@ -234,5 +232,44 @@ fn escapes(rt: HostRuntime) -> Result<(), Fail> {
     assert_eq!(rt; longer.copy(rt.alloc())?.as_slice().last(), Some(&b'!'));
     assert_eq!(rt; Bytes::new(rt.alloc()).as_slice(), b"".as_slice());
     assert_eq!(rt; part_of(b"%pushi", 1, 5), b"push".as_slice());
+    Ok(())
+}
+
+#[test]
+fn places(rt: HostRuntime) -> Result<(), Fail> {
+    let src = b"T_0 %op 12, \"t\";".as_slice();
+    let found = all_tokens(&rt, src)?;
+    let bytes = |name: Name| bytes_of(src, name);
+    assert_eq!(rt; word_at(&found, 1).map(bytes), Some(b"%op".as_slice()));
+    assert_eq!(rt; word_at(&found, 2), None);
+    assert_eq!(rt; number_at(&found, 2), Some(12));
+    assert_eq!(rt; number_at(&found, 5), None);
+    assert_eq!(rt; text_at(&found, 4).map(bytes), Some(b"\"t\"".as_slice()));
+    assert_eq!(rt; number_at(tokens_after(&found, 2), 0), Some(12));
+    assert!(rt; tokens_after(&found, 6).is_empty());
+    assert_eq!(rt; bytes_after(src, 12), b"\"t\";".as_slice());
+    assert_eq!(rt; byte_at(src, 4), b'%');
+    assert_eq!(rt; byte_at(src, 99), 0);
+    Ok(())
+}
+
+#[test]
+fn labels(rt: HostRuntime) -> Result<(), Fail> {
+    let rows: [(&[u8], bool); 7] = [
+        (b"T_0 ;", true),
+        (b"_a 1;", true),
+        (b"$b ;", true),
+        (b"\\c ;", true),
+        (b"%op ;", false),
+        (b".var ;", false),
+        (b"12 a;", false),
+    ];
+    for (src, label) in rows {
+        for first in all_tokens(&rt, src)?.iter().take(1) {
+            assert_eq!(rt; is_label(src, true, *first), label, "at {src:?}");
+            assert!(rt; !is_label(src, false, *first));
+            assert_eq!(rt; is_word(first.token), src != b"12 a;".as_slice());
+        }
+    }
     Ok(())
 }

@@ -13,9 +13,10 @@ use Rattle.vvp_lex.specs.Unescaped.{text_of}
 use Rattle.four_state.specs.declared.bits.Bit.{Bit}
 use Rattle.vvp_ops.specs.declared.args.Arg.{Arg}
 use Rattle.vvp_ops.specs.declared.args.Arg.TheVariants as a
-use Rattle.vvp_ops.specs.Tokens.{span_of, bytes_of, word_at, mark_at, decimal}
+use Rattle.vvp_lex.specs.Place.{span_of, bytes_of, word_at, Begins, BeginsAt}
+use Rattle.vvp_ops.specs.Tokens.{mark_at, decimal}
 use Rattle.vvp_ops.specs.Arguments.{vector_of, mark_len, sized_vector, based_argument, stack_argument, array_argument, part_argument, place_argument, opens_stack, word_argument, argument_as, argument_at, tokens_in}
-use Rattle.vvp_ops.specs.Spelled.{OneAt, One, IsTimeWord, IsArgument}
+use Rattle.vvp_ops.specs.Spelled.{IsTimeWord, IsArgument}
 use Rattle.vvp_ops.proofs.PlaceLemmas.{bind-some, some_inj, get-complete, word-sound}
 use Rattle.vvp_ops.proofs.VectorSpells.{vector-sound, vector-complete}
 use Rattle.vvp_ops.proofs.ArgumentSpells.{if-some, same_bytes, bytes_same, stack-sound, stack-complete, array-sound, array-complete, part-sound, part-complete}
@@ -47,7 +48,7 @@ not_same : (word text : List ℕ) → bytes_eq word text ≡ false → ¬ (word 
 not_same word text h same = false≢true (sym h ∙ bytes_same word text same)
 
 -- a word: a stack item or a symbol, after the time words
-symbol-spelled : (file : List ℕ) (tokens : List Spanned) (name : Name) (arg : Arg Name) → OneAt token.Word tokens (drop 1 tokens) name → ¬ IsTimeWord (bytes_of file name) → ((opens_stack (bytes_of file name) tokens ≡ true) × (stack_argument file tokens ≡ Some arg)) ⊎ ((opens_stack (bytes_of file name) tokens ≡ false) × (Some (a.Symbol name) ≡ Some arg)) → IsFront file tokens arg
+symbol-spelled : (file : List ℕ) (tokens : List Spanned) (name : Name) (arg : Arg Name) → BeginsAt token.Word name tokens (drop 1 tokens) → ¬ IsTimeWord (bytes_of file name) → ((opens_stack (bytes_of file name) tokens ≡ true) × (stack_argument file tokens ≡ Some arg)) ⊎ ((opens_stack (bytes_of file name) tokens ≡ false) × (Some (a.Symbol name) ≡ Some arg)) → IsFront file tokens arg
 symbol-spelled file tokens name arg one no_time (inl is) =
     let opens = and_parts _ _ is.0 in
     let found = stack-sound file tokens arg (name, one, same_bytes _ _ opens.0) is.1 in
@@ -64,7 +65,7 @@ abbrev after_time : List ℕ → List Spanned → Name → Option (Arg Name)
 after_time file tokens name =
     if opens_stack (bytes_of file name) tokens then stack_argument file tokens else Some (a.Symbol name)
 
-simtime-spelled : (file : List ℕ) (tokens : List Spanned) (name : Name) (arg : Arg Name) → OneAt token.Word tokens (drop 1 tokens) name → bytes_eq (bytes_of file name) (codes "$time") ≡ false → bytes_eq (bytes_of file name) (codes "$stime") ≡ false → ((bytes_eq (bytes_of file name) (codes "$simtime") ≡ true) × (Some a.SimTime ≡ Some arg)) ⊎ ((bytes_eq (bytes_of file name) (codes "$simtime") ≡ false) × (after_time file tokens name ≡ Some arg)) → IsFront file tokens arg
+simtime-spelled : (file : List ℕ) (tokens : List Spanned) (name : Name) (arg : Arg Name) → BeginsAt token.Word name tokens (drop 1 tokens) → bytes_eq (bytes_of file name) (codes "$time") ≡ false → bytes_eq (bytes_of file name) (codes "$stime") ≡ false → ((bytes_eq (bytes_of file name) (codes "$simtime") ≡ true) × (Some a.SimTime ≡ Some arg)) ⊎ ((bytes_eq (bytes_of file name) (codes "$simtime") ≡ false) × (after_time file tokens name ≡ Some arg)) → IsFront file tokens arg
 simtime-spelled file tokens name arg one no_time no_stime (inl is) =
     subst (IsFront file tokens) (some_inj a.SimTime arg is.1) (name, one, same_bytes _ _ is.0)
 simtime-spelled file tokens name arg one no_time no_stime (inr is) =
@@ -74,7 +75,7 @@ abbrev after_stime : List ℕ → List Spanned → Name → Option (Arg Name)
 after_stime file tokens name =
     if bytes_eq (bytes_of file name) (codes "$simtime") then Some a.SimTime else after_time file tokens name
 
-stime-spelled : (file : List ℕ) (tokens : List Spanned) (name : Name) (arg : Arg Name) → OneAt token.Word tokens (drop 1 tokens) name → bytes_eq (bytes_of file name) (codes "$time") ≡ false → ((bytes_eq (bytes_of file name) (codes "$stime") ≡ true) × (Some a.ShortTime ≡ Some arg)) ⊎ ((bytes_eq (bytes_of file name) (codes "$stime") ≡ false) × (after_stime file tokens name ≡ Some arg)) → IsFront file tokens arg
+stime-spelled : (file : List ℕ) (tokens : List Spanned) (name : Name) (arg : Arg Name) → BeginsAt token.Word name tokens (drop 1 tokens) → bytes_eq (bytes_of file name) (codes "$time") ≡ false → ((bytes_eq (bytes_of file name) (codes "$stime") ≡ true) × (Some a.ShortTime ≡ Some arg)) ⊎ ((bytes_eq (bytes_of file name) (codes "$stime") ≡ false) × (after_stime file tokens name ≡ Some arg)) → IsFront file tokens arg
 stime-spelled file tokens name arg one no_time (inl is) =
     subst (IsFront file tokens) (some_inj a.ShortTime arg is.1) (name, one, same_bytes _ _ is.0)
 stime-spelled file tokens name arg one no_time (inr is) =
@@ -84,19 +85,19 @@ abbrev after_all : List ℕ → List Spanned → Name → Option (Arg Name)
 after_all file tokens name =
     if bytes_eq (bytes_of file name) (codes "$stime") then Some a.ShortTime else after_stime file tokens name
 
-time-spelled : (file : List ℕ) (tokens : List Spanned) (name : Name) (arg : Arg Name) → OneAt token.Word tokens (drop 1 tokens) name → ((bytes_eq (bytes_of file name) (codes "$time") ≡ true) × (Some a.Time ≡ Some arg)) ⊎ ((bytes_eq (bytes_of file name) (codes "$time") ≡ false) × (after_all file tokens name ≡ Some arg)) → IsFront file tokens arg
+time-spelled : (file : List ℕ) (tokens : List Spanned) (name : Name) (arg : Arg Name) → BeginsAt token.Word name tokens (drop 1 tokens) → ((bytes_eq (bytes_of file name) (codes "$time") ≡ true) × (Some a.Time ≡ Some arg)) ⊎ ((bytes_eq (bytes_of file name) (codes "$time") ≡ false) × (after_all file tokens name ≡ Some arg)) → IsFront file tokens arg
 time-spelled file tokens name arg one (inl is) =
     subst (IsFront file tokens) (some_inj a.Time arg is.1) (name, one, same_bytes _ _ is.0)
 time-spelled file tokens name arg one (inr is) =
     stime-spelled file tokens name arg one is.0 (if-cases (bytes_eq (bytes_of file name) (codes "$stime")) _ _ _ is.1)
 
-word-spelled : (file : List ℕ) (tokens : List Spanned) (name : Name) (arg : Arg Name) → OneAt token.Word tokens (drop 1 tokens) name → word_argument file tokens name ≡ Some arg → IsFront file tokens arg
+word-spelled : (file : List ℕ) (tokens : List Spanned) (name : Name) (arg : Arg Name) → BeginsAt token.Word name tokens (drop 1 tokens) → word_argument file tokens name ≡ Some arg → IsFront file tokens arg
 unfolding word_argument
 word-spelled file tokens name arg one h =
     time-spelled file tokens name arg one (if-cases (bytes_eq (bytes_of file name) (codes "$time")) _ _ _ h)
 
 -- an ampersand: an array's word or a part
-part-spelled : (file : List ℕ) (tokens : List Spanned) (word : Name) (arg : Arg Name) → One (token.Punct 38) tokens (drop 1 tokens) → OneAt token.Word (drop 1 tokens) (drop 2 tokens) word → ((bytes_eq (bytes_of file word) (codes "PV") ≡ true) × (part_argument tokens ≡ Some arg)) ⊎ ((bytes_eq (bytes_of file word) (codes "PV") ≡ false) × (None ≡ Some arg)) → IsFront file tokens arg
+part-spelled : (file : List ℕ) (tokens : List Spanned) (word : Name) (arg : Arg Name) → Begins (token.Punct 38) tokens (drop 1 tokens) → BeginsAt token.Word word (drop 1 tokens) (drop 2 tokens) → ((bytes_eq (bytes_of file word) (codes "PV") ≡ true) × (part_argument tokens ≡ Some arg)) ⊎ ((bytes_eq (bytes_of file word) (codes "PV") ≡ false) × (None ≡ Some arg)) → IsFront file tokens arg
 part-spelled file tokens word arg ampersand one (inl is) =
     let found = part-sound file tokens arg ampersand (word, one, same_bytes _ _ is.0) is.1 in
     subst (IsFront file tokens) found.3 found.4
@@ -106,14 +107,14 @@ abbrev after_array : List ℕ → List Spanned → Name → Option (Arg Name)
 after_array file tokens word =
     if bytes_eq (bytes_of file word) (codes "PV") then part_argument tokens else None
 
-array-spelled : (file : List ℕ) (tokens : List Spanned) (word : Name) (arg : Arg Name) → One (token.Punct 38) tokens (drop 1 tokens) → OneAt token.Word (drop 1 tokens) (drop 2 tokens) word → ((bytes_eq (bytes_of file word) (codes "A") ≡ true) × (array_argument tokens ≡ Some arg)) ⊎ ((bytes_eq (bytes_of file word) (codes "A") ≡ false) × (after_array file tokens word ≡ Some arg)) → IsFront file tokens arg
+array-spelled : (file : List ℕ) (tokens : List Spanned) (word : Name) (arg : Arg Name) → Begins (token.Punct 38) tokens (drop 1 tokens) → BeginsAt token.Word word (drop 1 tokens) (drop 2 tokens) → ((bytes_eq (bytes_of file word) (codes "A") ≡ true) × (array_argument tokens ≡ Some arg)) ⊎ ((bytes_eq (bytes_of file word) (codes "A") ≡ false) × (after_array file tokens word ≡ Some arg)) → IsFront file tokens arg
 array-spelled file tokens word arg ampersand one (inl is) =
     let found = array-sound file tokens arg ampersand (word, one, same_bytes _ _ is.0) is.1 in
     subst (IsFront file tokens) found.2 found.3
 array-spelled file tokens word arg ampersand one (inr is) =
     part-spelled file tokens word arg ampersand one (if-cases (bytes_eq (bytes_of file word) (codes "PV")) _ _ _ is.1)
 
-place-spelled : (file : List ℕ) (tokens : List Spanned) (arg : Arg Name) → One (token.Punct 38) tokens (drop 1 tokens) → place_argument file tokens ≡ Some arg → IsFront file tokens arg
+place-spelled : (file : List ℕ) (tokens : List Spanned) (arg : Arg Name) → Begins (token.Punct 38) tokens (drop 1 tokens) → place_argument file tokens ≡ Some arg → IsFront file tokens arg
 unfolding place_argument
 place-spelled file tokens arg ampersand h =
     let word = bind-some (word_at tokens 1) _ arg h in
@@ -139,25 +140,25 @@ argument-sound file (first ∷ rest) arg h = by first.token refl h
     by _ e h = cc
 
 -- what an argument begins with
-text-begins : (file : List ℕ) (tokens rest : List Spanned) (name : Name) → OneAt token.Text tokens rest name → (argument_at file tokens ≡ Some (a.Text (text_of file name))) × (drop 1 tokens ≡ rest)
+text-begins : (file : List ℕ) (tokens rest : List Spanned) (name : Name) → BeginsAt token.Text name tokens rest → (argument_at file tokens ≡ Some (a.Text (text_of file name))) × (drop 1 tokens ≡ rest)
 unfolding argument_at
 text-begins file tokens rest name one =
     let found = get-complete 0 tokens tokens rest one.0 refl one.1 in
     (rw (found.0, one.2, one.3) refl, found.1)
 
-based-begins : (file : List ℕ) (tokens rest : List Spanned) (name : Name) → OneAt token.Based tokens rest name → (argument_at file tokens ≡ based_argument (bytes_of file name)) × (drop 1 tokens ≡ rest)
+based-begins : (file : List ℕ) (tokens rest : List Spanned) (name : Name) → BeginsAt token.Based name tokens rest → (argument_at file tokens ≡ based_argument (bytes_of file name)) × (drop 1 tokens ≡ rest)
 unfolding argument_at
 based-begins file tokens rest name one =
     let found = get-complete 0 tokens tokens rest one.0 refl one.1 in
     (rw (found.0, one.2, one.3) refl, found.1)
 
-word-begins : (file : List ℕ) (tokens rest : List Spanned) (name : Name) → OneAt token.Word tokens rest name → (argument_at file tokens ≡ word_argument file tokens name) × (drop 1 tokens ≡ rest)
+word-begins : (file : List ℕ) (tokens rest : List Spanned) (name : Name) → BeginsAt token.Word name tokens rest → (argument_at file tokens ≡ word_argument file tokens name) × (drop 1 tokens ≡ rest)
 unfolding argument_at
 word-begins file tokens rest name one =
     let found = get-complete 0 tokens tokens rest one.0 refl one.1 in
     (rw (found.0, one.2, one.3) refl, found.1)
 
-place-begins : (file : List ℕ) (tokens rest : List Spanned) → One (token.Punct 38) tokens rest → argument_at file tokens ≡ place_argument file tokens
+place-begins : (file : List ℕ) (tokens rest : List Spanned) → Begins (token.Punct 38) tokens rest → argument_at file tokens ≡ place_argument file tokens
 unfolding argument_at
 place-begins file tokens rest one =
     let found = get-complete 0 tokens tokens rest one.0 refl one.1 in rw (found.0, one.2) refl

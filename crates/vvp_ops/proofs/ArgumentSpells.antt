@@ -11,9 +11,10 @@ use Rattle.vvp_lex.specs.declared.types.Spanned.{Spanned}
 use Rattle.vvp_lex.specs.declared.types.Token.TheVariants as token
 use Rattle.vvp_ops.specs.declared.args.Arg.{Arg}
 use Rattle.vvp_ops.specs.declared.args.Arg.TheVariants as a
-use Rattle.vvp_ops.specs.Tokens.{bytes_of, number_at, word_at, mark_at, decimal}
+use Rattle.vvp_lex.specs.Place.{bytes_of, number_at, word_at, Begins}
+use Rattle.vvp_ops.specs.Tokens.{mark_at, decimal}
 use Rattle.vvp_ops.specs.Arguments.{stack_type, stack_argument, array_argument, part_argument, place_argument}
-use Rattle.vvp_ops.specs.Spelled.{One, OneWord, IsStackType, IsStack, IsArrayWord, IsPart}
+use Rattle.vvp_ops.specs.Spelled.{OneWord, IsStackType, IsStack, IsArrayWord, IsPart}
 use Rattle.vvp_ops.proofs.PlaceLemmas.{bind-some, some_inj, number-sound, number-complete, word-sound, word-complete, mark-sound, mark-complete}
 
 pub same_bytes : (word text : List ℕ) → bytes_eq word text ≡ true → word ≡ text
@@ -128,7 +129,7 @@ stack-complete file tokens rest place width signed s =
     (less.0, rw (less.0, number.0, comma.0, kind.0, second_comma.0, type.0, more.0, means, vec4) refl, more.1)
 
 -- the parts of an array's word
-pub array-sound : (file : List ℕ) (tokens : List Spanned) (arg : Arg Name) → One (token.Punct 38) tokens (drop 1 tokens) → OneWord file (codes "A") (drop 1 tokens) (drop 2 tokens) → array_argument tokens ≡ Some arg → (array : Name) × (index : ℕ) × (a.Word array index ≡ arg) × IsArrayWord file tokens (drop 7 tokens) array index
+pub array-sound : (file : List ℕ) (tokens : List Spanned) (arg : Arg Name) → Begins (token.Punct 38) tokens (drop 1 tokens) → OneWord file (codes "A") (drop 1 tokens) (drop 2 tokens) → array_argument tokens ≡ Some arg → (array : Name) × (index : ℕ) × (a.Word array index ≡ arg) × IsArrayWord file tokens (drop 7 tokens) array index
 unfolding array_argument
 array-sound file tokens arg ampersand opens h =
     let less = bind-some (mark_at tokens 2 60) _ arg h in
@@ -169,7 +170,7 @@ array-complete file tokens rest array index s =
     (rw (word.0, s.opens.2, less.0, name.0, comma.0, number.0, more.0) refl, more.1)
 
 -- the parts of a part of an item
-pub part-sound : (file : List ℕ) (tokens : List Spanned) (arg : Arg Name) → One (token.Punct 38) tokens (drop 1 tokens) → OneWord file (codes "PV") (drop 1 tokens) (drop 2 tokens) → part_argument tokens ≡ Some arg → (item : Name) × (base : ℕ) × (width : ℕ) × (a.Part item base width ≡ arg) × IsPart file tokens (drop 9 tokens) item base width
+pub part-sound : (file : List ℕ) (tokens : List Spanned) (arg : Arg Name) → Begins (token.Punct 38) tokens (drop 1 tokens) → OneWord file (codes "PV") (drop 1 tokens) (drop 2 tokens) → part_argument tokens ≡ Some arg → (item : Name) × (base : ℕ) × (width : ℕ) × (a.Part item base width ≡ arg) × IsPart file tokens (drop 9 tokens) item base width
 unfolding part_argument
 part-sound file tokens arg ampersand opens h =
     let less = bind-some (mark_at tokens 2 60) _ arg h in

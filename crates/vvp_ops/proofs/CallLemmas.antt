@@ -11,7 +11,8 @@ use Rattle.vvp_lex.specs.Unescaped.{IsText}
 use Rattle.vvp_lex.specs.declared.types.Name.{Name}
 use Rattle.vvp_lex.specs.declared.types.Spanned.{Spanned}
 use Rattle.vvp_ops.specs.declared.args.Arg.{Arg}
-use Rattle.vvp_ops.specs.Tokens.{◌>>=◌, IsTextOf, is_mark, mark_at, text_in, text_at, span_of}
+use Rattle.vvp_lex.specs.Place.{◌>>=◌, IsTextOf, is_mark, text_in, text_at, span_of}
+use Rattle.vvp_ops.specs.Tokens.{mark_at}
 use Rattle.vvp_ops.specs.Arguments.{argument_at, tokens_in}
 use Rattle.vvp_ops.specs.Calls.{Arguments, with_argument, arguments_of}
 

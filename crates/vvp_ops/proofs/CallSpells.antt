@@ -7,10 +7,11 @@ use Rattle.vvp_lex.specs.Unescaped.{text_of}
 use Rattle.vvp_ops.specs.declared.args.Arg.{Arg}
 use Rattle.vvp_ops.specs.declared.op.Op.{Op}
 use Rattle.vvp_ops.specs.declared.op.Op.TheVariants as o
-use Rattle.vvp_ops.specs.Tokens.{◌>>=◌, span_of, bytes_of, is_mark, mark_at, number_at, text_at}
+use Rattle.vvp_lex.specs.Place.{◌>>=◌, span_of, bytes_of, is_mark, number_at, text_at, Begins}
+use Rattle.vvp_ops.specs.Tokens.{mark_at}
 use Rattle.vvp_ops.specs.Arguments.{argument_at, tokens_in}
 use Rattle.vvp_ops.specs.Calls.{Arguments, with_argument, arguments_of, pops_of, is_task, is_function, task_of, function_of}
-use Rattle.vvp_ops.specs.Spelled.{One, AreArguments, ArePops}
+use Rattle.vvp_ops.specs.Spelled.{AreArguments, ArePops}
 use Rattle.vvp_ops.specs.Spells.{SpellsTask, SpellsFunction}
 use Rattle.vvp_ops.proofs.CallLemmas.{arguments_of-passed, arguments_of-comma, arguments_of-end}
 use Rattle.vvp_ops.proofs.PlaceLemmas.{bind-some, is_mark-is, number-sound, number-complete, text-sound, text-complete, mark-complete}
@@ -31,7 +32,7 @@ same_after read other h = ap (λ (r : Arguments). r.1) (same_read read other h)
 pops-end : (file : List ℕ) (tokens : List Spanned) (pops : ℕ) → ArePops tokens pops → arguments_of file 0 tokens ≡ Some ([], tokens)
 pops-end file tokens pops s = arguments_of-end file tokens (pops-no_mark 44 tokens pops refl s)
 
-comma-no_less : (tokens rest : List Spanned) → One (token.Punct 44) tokens rest → is_some (mark_at tokens 0 60) ≡ false
+comma-no_less : (tokens rest : List Spanned) → Begins (token.Punct 44) tokens rest → is_some (mark_at tokens 0 60) ≡ false
 unfolding mark_at
 comma-no_less tokens rest one = rw (one.1, one.2) refl
 

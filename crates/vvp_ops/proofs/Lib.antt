@@ -2,7 +2,7 @@ pub mod Rows
 pub mod Words
 pub mod SpellsLemmas
 pub mod StatementLemmas
-pub mod TokenLemmas
+pub mod DigitLemmas
 pub mod VectorLemmas
 pub mod PlaceLemmas
 pub mod OperandSpells

@@ -11,9 +11,9 @@ use Rattle.vvp_ops.specs.declared.table.Kind.{Kind}
 use Rattle.vvp_ops.specs.declared.table.Kind.TheVariants as k
 use Rattle.vvp_ops.specs.declared.operand.Operand.{Operand}
 use Rattle.vvp_ops.specs.declared.operand.Operand.TheVariants as operand
-use Rattle.vvp_ops.specs.Tokens.{span_of, is_mark}
+use Rattle.vvp_lex.specs.Place.{span_of, is_mark, Begins}
 use Rattle.vvp_ops.specs.Operands.{symbol_as, number_as, operand_as, operand_at}
-use Rattle.vvp_ops.specs.Spelled.{One, IsSymbol, IsNumber, IsBelow, IsOperand, IsNext}
+use Rattle.vvp_ops.specs.Spelled.{IsSymbol, IsNumber, IsBelow, IsOperand, IsNext}
 use Rattle.vvp_ops.proofs.PlaceLemmas.{some_inj, is_mark-is, is_mark-punct}
 
 -- a token of the kind, at the front
@@ -107,7 +107,7 @@ operand_at-some k.Absent tokens place some = cc
 operand_at-some _ tokens place some = refl
 
 -- a comma and an operand
-next-some : (kind : Kind) (tokens rest : List Spanned) (found : Operand) → is_absent kind ≡ false → IsNext kind tokens rest found ≡ ((after : List Spanned) × One (token.Punct 44) tokens after × IsOperand kind after rest found)
+next-some : (kind : Kind) (tokens rest : List Spanned) (found : Operand) → is_absent kind ≡ false → IsNext kind tokens rest found ≡ ((after : List Spanned) × Begins (token.Punct 44) tokens after × IsOperand kind after rest found)
 next-some k.Absent tokens rest found some = cc
 next-some _ tokens rest found some = refl
 

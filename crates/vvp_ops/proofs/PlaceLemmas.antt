@@ -6,8 +6,8 @@ use Rattle.vvp_lex.specs.declared.types.Name.{Name}
 use Rattle.vvp_lex.specs.declared.types.Spanned.{Spanned}
 use Rattle.vvp_lex.specs.declared.types.Token.{Token}
 use Rattle.vvp_lex.specs.declared.types.Token.TheVariants as token
-use Rattle.vvp_ops.specs.Tokens.{◌>>=◌, span_of, number_in, word_in, text_in, is_mark, mark_in, number_at, word_at, text_at, mark_at}
-use Rattle.vvp_ops.specs.Spelled.{OneAt, One}
+use Rattle.vvp_lex.specs.Place.{◌>>=◌, span_of, number_in, word_in, text_in, is_mark, number_at, word_at, text_at, Begins, BeginsAt}
+use Rattle.vvp_ops.specs.Tokens.{mark_in, mark_at}
 
 -- a step that gave some
 pub bind-some : {A B : Type 0} (read : Option A) (next : A → Option B) (value : B) → (read >>= next) ≡ Some value → (x : A) × (read ≡ Some x) × (next x ≡ Some value)
@@ -61,51 +61,51 @@ mark_in-is byte t h = by (is_mark byte t) refl h
     by false e h = cc
 
 -- a number, a word, a text or a mark that is read at a place is spelled there
-pub number-sound : (place : ℕ) (tokens : List Spanned) (value : ℕ) → number_at tokens place ≡ Some value → One (token.Number value) (drop place tokens) (drop (suc place) tokens)
+pub number-sound : (place : ℕ) (tokens : List Spanned) (value : ℕ) → number_at tokens place ≡ Some value → Begins (token.Number value) (drop place tokens) (drop (suc place) tokens)
 unfolding number_at
 number-sound place tokens value h =
     let found = bind-some (slice_get tokens place) _ value h in
     (found.0, get-sound place tokens found.0 found.1, number_in-is found.0.token value found.2)
 
-pub word-sound : (place : ℕ) (tokens : List Spanned) (name : Name) → word_at tokens place ≡ Some name → OneAt token.Word (drop place tokens) (drop (suc place) tokens) name
+pub word-sound : (place : ℕ) (tokens : List Spanned) (name : Name) → word_at tokens place ≡ Some name → BeginsAt token.Word name (drop place tokens) (drop (suc place) tokens)
 unfolding word_at
 word-sound place tokens name h =
     let found = bind-some (slice_get tokens place) _ name h in
     let is = word_in-is found.0.token (span_of found.0) name found.2 in
     (found.0, get-sound place tokens found.0 found.1, is.0, is.1)
 
-pub text-sound : (place : ℕ) (tokens : List Spanned) (name : Name) → text_at tokens place ≡ Some name → OneAt token.Text (drop place tokens) (drop (suc place) tokens) name
+pub text-sound : (place : ℕ) (tokens : List Spanned) (name : Name) → text_at tokens place ≡ Some name → BeginsAt token.Text name (drop place tokens) (drop (suc place) tokens)
 unfolding text_at
 text-sound place tokens name h =
     let found = bind-some (slice_get tokens place) _ name h in
     let is = text_in-is found.0.token (span_of found.0) name found.2 in
     (found.0, get-sound place tokens found.0 found.1, is.0, is.1)
 
-pub mark-sound : (place : ℕ) (tokens : List Spanned) (byte : ℕ) → mark_at tokens place byte ≡ Some tt → One (token.Punct byte) (drop place tokens) (drop (suc place) tokens)
+pub mark-sound : (place : ℕ) (tokens : List Spanned) (byte : ℕ) → mark_at tokens place byte ≡ Some tt → Begins (token.Punct byte) (drop place tokens) (drop (suc place) tokens)
 unfolding mark_at
 mark-sound place tokens byte h =
     let found = bind-some (slice_get tokens place) _ tt h in
     (found.0, get-sound place tokens found.0 found.1, mark_in-is byte found.0.token found.2)
 
 -- what is spelled there is read at the place
-pub number-complete : (place : ℕ) (tokens here rest : List Spanned) (value : ℕ) → drop place tokens ≡ here → One (token.Number value) here rest → (number_at tokens place ≡ Some value) × (drop (suc place) tokens ≡ rest)
+pub number-complete : (place : ℕ) (tokens here rest : List Spanned) (value : ℕ) → drop place tokens ≡ here → Begins (token.Number value) here rest → (number_at tokens place ≡ Some value) × (drop (suc place) tokens ≡ rest)
 unfolding number_at
 number-complete place tokens here rest value from one =
     let found = get-complete place tokens here rest one.0 from one.1 in (rw (found.0, one.2) refl, found.1)
 
-pub word-complete : (place : ℕ) (tokens here rest : List Spanned) (name : Name) → drop place tokens ≡ here → OneAt token.Word here rest name → (word_at tokens place ≡ Some name) × (drop (suc place) tokens ≡ rest)
+pub word-complete : (place : ℕ) (tokens here rest : List Spanned) (name : Name) → drop place tokens ≡ here → BeginsAt token.Word name here rest → (word_at tokens place ≡ Some name) × (drop (suc place) tokens ≡ rest)
 unfolding word_at
 word-complete place tokens here rest name from one =
     let found = get-complete place tokens here rest one.0 from one.1 in
     (rw (found.0, one.2) (ap Some (sym one.3)), found.1)
 
-pub text-complete : (place : ℕ) (tokens here rest : List Spanned) (name : Name) → drop place tokens ≡ here → OneAt token.Text here rest name → (text_at tokens place ≡ Some name) × (drop (suc place) tokens ≡ rest)
+pub text-complete : (place : ℕ) (tokens here rest : List Spanned) (name : Name) → drop place tokens ≡ here → BeginsAt token.Text name here rest → (text_at tokens place ≡ Some name) × (drop (suc place) tokens ≡ rest)
 unfolding text_at
 text-complete place tokens here rest name from one =
     let found = get-complete place tokens here rest one.0 from one.1 in
     (rw (found.0, one.2) (ap Some (sym one.3)), found.1)
 
-pub mark-complete : (place : ℕ) (tokens here rest : List Spanned) (byte : ℕ) → drop place tokens ≡ here → One (token.Punct byte) here rest → (mark_at tokens place byte ≡ Some tt) × (drop (suc place) tokens ≡ rest)
+pub mark-complete : (place : ℕ) (tokens here rest : List Spanned) (byte : ℕ) → drop place tokens ≡ here → Begins (token.Punct byte) here rest → (mark_at tokens place byte ≡ Some tt) × (drop (suc place) tokens ≡ rest)
 unfolding mark_at
 mark-complete place tokens here rest byte from one =
     let found = get-complete place tokens here rest one.0 from one.1 in

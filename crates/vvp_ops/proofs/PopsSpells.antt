@@ -4,9 +4,10 @@ use Rattle.std.specs.Str.{bytes_eq}
 use Rattle.std.proofs.lemmas.List.{drop_all}
 use Rattle.vvp_lex.specs.declared.types.Spanned.{Spanned}
 use Rattle.vvp_lex.specs.declared.types.Token.TheVariants as token
-use Rattle.vvp_ops.specs.Tokens.{number_at, mark_at}
+use Rattle.vvp_lex.specs.Place.{number_at, Begins}
+use Rattle.vvp_ops.specs.Tokens.{mark_at}
 use Rattle.vvp_ops.specs.Calls.{is_task, is_function, zero_at, pops_of}
-use Rattle.vvp_ops.specs.Spelled.{One, ArePops, IsTaskWord, IsFunctionWord}
+use Rattle.vvp_ops.specs.Spelled.{ArePops, IsTaskWord, IsFunctionWord}
 use Rattle.vvp_ops.proofs.PlaceLemmas.{bind-some, number-sound, number-complete, mark-sound, mark-complete}
 use Rattle.vvp_ops.proofs.ArgumentSpells.{if-some, same_bytes}
 
@@ -48,13 +49,13 @@ zero_of : (value : ℕ) (test : Bool) → nat_eq value 0 ≡ test → if_zero te
 zero_of value true e h = eqb-true value 0 e
 zero_of value false e h = cc
 
-zero-sound : (place : ℕ) (tokens : List Spanned) → zero_at tokens place ≡ Some tt → One (token.Number 0) (drop place tokens) (drop (suc place) tokens)
+zero-sound : (place : ℕ) (tokens : List Spanned) → zero_at tokens place ≡ Some tt → Begins (token.Number 0) (drop place tokens) (drop (suc place) tokens)
 zero-sound place tokens h =
     let found = bind-some (number_at tokens place) _ tt h in
     let zero = zero_of found.0 (nat_eq found.0 0) refl found.2 in
     number-sound place tokens 0 (found.1 ∙ ap Some zero)
 
-zero-complete : (place : ℕ) (tokens here rest : List Spanned) → drop place tokens ≡ here → One (token.Number 0) here rest → (zero_at tokens place ≡ Some tt) × (drop (suc place) tokens ≡ rest)
+zero-complete : (place : ℕ) (tokens here rest : List Spanned) → drop place tokens ≡ here → Begins (token.Number 0) here rest → (zero_at tokens place ≡ Some tt) × (drop (suc place) tokens ≡ rest)
 zero-complete place tokens here rest from one =
     let found = number-complete place tokens here rest 0 from one in (rw found.0 refl, found.1)
 
@@ -78,7 +79,7 @@ pops-sound tokens pops h =
       has_pops = number-sound 1 tokens pops (number.1 ∙ ap Some last.1);
       second = zero-sound 2 tokens second.1;
       third = zero-sound 3 tokens third.1;
-      closes = subst (One (token.Punct 125) (drop 4 tokens)) end (mark-sound 4 tokens 125 closes.1);
+      closes = subst (Begins (token.Punct 125) (drop 4 tokens)) end (mark-sound 4 tokens 125 closes.1);
     }
 
 pub pops-complete : (tokens : List Spanned) (pops : ℕ) → ArePops tokens pops → pops_of tokens ≡ Some pops

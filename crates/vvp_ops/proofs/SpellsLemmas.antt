@@ -8,7 +8,7 @@ use Rattle.vvp_lex.specs.declared.types.Name.{Name}
 use Rattle.vvp_lex.specs.declared.types.Spanned.{Spanned}
 use Rattle.vvp_ops.specs.declared.op.Op.{Op}
 use Rattle.vvp_ops.specs.declared.operand.Operand.{Operand}
-use Rattle.vvp_ops.specs.Tokens.{span_of, bytes_of}
+use Rattle.vvp_lex.specs.Place.{span_of, bytes_of}
 use Rattle.vvp_ops.specs.Table.{Row, rows, row_spelled, opcode_of}
 use Rattle.vvp_ops.specs.Operands.{operands_of}
 use Rattle.vvp_ops.specs.Calls.{is_task, is_function, task_of, function_of}

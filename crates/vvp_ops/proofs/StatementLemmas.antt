@@ -11,9 +11,9 @@ use Rattle.vvp_lex.specs.declared.types.FormFault.{FormFault}
 use Rattle.vvp_lex.specs.declared.types.FormFault.TheVariants as fault
 use Rattle.vvp_lex.specs.Statement.{statements_of, tokens_of}
 use Rattle.vvp_ops.specs.declared.op.Op.{Op}
-use Rattle.vvp_ops.specs.Tokens.{IsTextOf}
+use Rattle.vvp_lex.specs.Place.{IsTextOf}
 use Rattle.vvp_ops.specs.Grammar.{read_tokens}
-use Rattle.vvp_ops.specs.Statement.{is_label, after_label, body_of, Answers}
+use Rattle.vvp_ops.specs.Statement.{has_label, after_label, body_of, Answers}
 use Rattle.vvp_ops.specs.Spells.{SpellsOnly, SpellsNone}
 use Rattle.vvp_ops.proofs.SpellsLemmas.{read-spelled, spelled-read}
 
@@ -43,7 +43,7 @@ All-tokens_of file statement given =
 
 -- what holds of all tokens holds of those after the label
 pub All-after_label : (P : Spanned → Type 0) (file : List ℕ) (column_one : Bool) (tokens : List Spanned) → All P tokens → All P (after_label file column_one tokens)
-All-after_label P file column_one tokens h = by (is_label file column_one (slice_get tokens 0))
+All-after_label P file column_one tokens h = by (has_label file column_one (slice_get tokens 0))
   where
     by : (label : Bool) → All P (if label then drop 1 tokens else tokens)
     by true = All-drop P 1 tokens h

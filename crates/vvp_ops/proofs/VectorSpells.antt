@@ -13,10 +13,11 @@ use Rattle.vvp_lex.specs.declared.types.Name.{Name}
 use Rattle.four_state.specs.declared.bits.Bit.{Bit}
 use Rattle.vvp_ops.specs.declared.args.Arg.{Arg}
 use Rattle.vvp_ops.specs.declared.args.Arg.TheVariants as a
-use Rattle.vvp_ops.specs.Tokens.{◌>>=◌, decimal}
+use Rattle.vvp_lex.specs.Place.{◌>>=◌}
+use Rattle.vvp_ops.specs.Tokens.{decimal}
 use Rattle.vvp_ops.specs.Arguments.{bit_of, vector_of, mark_len, sized_vector, based_argument}
 use Rattle.vvp_ops.specs.Spelled.{IsVector}
-use Rattle.vvp_ops.proofs.TokenLemmas.{front-passes}
+use Rattle.vvp_ops.proofs.DigitLemmas.{front-passes}
 use Rattle.vvp_ops.proofs.PlaceLemmas.{bind-some, some_inj}
 use Rattle.vvp_ops.proofs.ArgumentSpells.{if-some}
 

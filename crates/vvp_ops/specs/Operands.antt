@@ -3,7 +3,7 @@ use Rattle.std.specs.Prelude.{ℕ, ◌^◌, Bool, true, ◌&&◌, List, length, 
 use Rattle.vvp_lex.specs.declared.types.Name.{Name}
 use Rattle.vvp_lex.specs.declared.types.Spanned.{Spanned}
 use Rattle.vvp_lex.specs.declared.types.Token.TheVariants as token
-use Rattle.vvp_ops.specs.Tokens.{span_of, is_mark}
+use Rattle.vvp_lex.specs.Place.{span_of, is_mark}
 use Rattle.vvp_ops.specs.declared.table.Kind.{Kind}
 use Rattle.vvp_ops.specs.declared.table.Kind.TheVariants as k
 use Rattle.vvp_ops.specs.declared.operand.Operand.{Operand}

@@ -7,7 +7,6 @@ use Rattle.std.specs.List.{AllPass}
 use Rattle.four_state.specs.declared.bits.Bit.{Bit}
 use Rattle.vvp_lex.specs.declared.types.Name.{Name}
 use Rattle.vvp_lex.specs.declared.types.Spanned.{Spanned}
-use Rattle.vvp_lex.specs.declared.types.Token.{Token}
 use Rattle.vvp_lex.specs.declared.types.Token.TheVariants as token
 use Rattle.vvp_lex.specs.Unescaped.{text_of}
 use Rattle.vvp_ops.specs.declared.args.Arg.{Arg}
@@ -16,34 +15,26 @@ use Rattle.vvp_ops.specs.declared.table.Kind.{Kind}
 use Rattle.vvp_ops.specs.declared.table.Kind.TheVariants as k
 use Rattle.vvp_ops.specs.declared.operand.Operand.{Operand}
 use Rattle.vvp_ops.specs.declared.operand.Operand.TheVariants as operand
-use Rattle.vvp_ops.specs.Tokens.{span_of, bytes_of, decimal}
+use Rattle.vvp_lex.specs.Place.{bytes_of, Begins, BeginsAt}
+use Rattle.vvp_ops.specs.Tokens.{decimal}
 use Rattle.vvp_ops.specs.Arguments.{bit_of}
-
--- a token of this kind, which lies at `name`
-abbrev pub OneAt : Token → List Spanned → List Spanned → Name → Type 0
-OneAt kind tokens rest name =
-    (first : Spanned) × (tokens ≡ first ∷ rest) × (first.token ≡ kind) × (name ≡ span_of first)
-
--- a token of this kind
-abbrev pub One : Token → List Spanned → List Spanned → Type 0
-One kind tokens rest = (first : Spanned) × (tokens ≡ first ∷ rest) × (first.token ≡ kind)
 
 -- a word with these bytes
 abbrev pub OneWord : List ℕ → List ℕ → List Spanned → List Spanned → Type 0
-OneWord file text tokens rest = (name : Name) × OneAt token.Word tokens rest name × (bytes_of file name ≡ text)
+OneWord file text tokens rest = (name : Name) × BeginsAt token.Word name tokens rest × (bytes_of file name ≡ text)
 
 -- a symbol
 abbrev pub IsSymbol : List Spanned → List Spanned → Operand → Type 0
-IsSymbol tokens rest found = (name : Name) × OneAt token.Word tokens rest name × (found ≡ operand.Symbol name)
+IsSymbol tokens rest found = (name : Name) × BeginsAt token.Word name tokens rest × (found ≡ operand.Symbol name)
 
 -- a number
 abbrev pub IsNumber : List Spanned → List Spanned → Operand → Type 0
-IsNumber tokens rest found = (number : ℕ) × One (token.Number number) tokens rest × (found ≡ operand.Number number)
+IsNumber tokens rest found = (number : ℕ) × Begins (token.Number number) tokens rest × (found ≡ operand.Number number)
 
 -- a number below a limit
 abbrev pub IsBelow : ℕ → List Spanned → List Spanned → Operand → Type 0
 IsBelow limit tokens rest found =
-    (number : ℕ) × One (token.Number number) tokens rest × (number < limit) × (found ≡ operand.Half number)
+    (number : ℕ) × Begins (token.Number number) tokens rest × (number < limit) × (found ≡ operand.Half number)
 
 -- an operand, by its kind
 abbrev pub IsOperand : Kind → List Spanned → List Spanned → Operand → Type 0
@@ -65,7 +56,7 @@ IsOperand k.State tokens rest found = IsBelow 4 tokens rest found
 abbrev pub IsNext : Kind → List Spanned → List Spanned → Operand → Type 0
 IsNext k.Absent tokens rest found = (tokens ≡ rest) × (found ≡ operand.Absent)
 IsNext kind tokens rest found =
-    (after : List Spanned) × One (token.Punct 44) tokens after × IsOperand kind after rest found
+    (after : List Spanned) × Begins (token.Punct 44) tokens after × IsOperand kind after rest found
 
 -- the operands of a row, with commas between them and nothing after them
 abbrev pub AreOperands : Kind × Kind × Kind → List Spanned → Operand × Operand × Operand → Type 0
@@ -95,13 +86,13 @@ pub record IsStack (file : List ℕ) (tokens rest : List Spanned) (place width :
   pub t7 : List Spanned
   pub type : Name
   pub opens : OneWord file (codes "S") tokens t1
-  pub less : One (token.Punct 60) t1 t2
-  pub has_place : One (token.Number place) t2 t3
-  pub comma : One (token.Punct 44) t3 t4
+  pub less : Begins (token.Punct 60) t1 t2
+  pub has_place : Begins (token.Number place) t2 t3
+  pub comma : Begins (token.Punct 44) t3 t4
   pub vec4 : OneWord file (codes "vec4") t4 t5
-  pub second_comma : One (token.Punct 44) t5 t6
-  pub has_type : OneAt token.Word t6 t7 type
-  pub more : One (token.Punct 62) t7 rest
+  pub second_comma : Begins (token.Punct 44) t5 t6
+  pub has_type : BeginsAt token.Word type t6 t7
+  pub more : Begins (token.Punct 62) t7 rest
   pub means : IsStackType signed width (bytes_of file type)
 
 -- `&A<m, n>`
@@ -112,13 +103,13 @@ pub record IsArrayWord (file : List ℕ) (tokens rest : List Spanned) (array : N
   pub t4 : List Spanned
   pub t5 : List Spanned
   pub t6 : List Spanned
-  pub ampersand : One (token.Punct 38) tokens t1
+  pub ampersand : Begins (token.Punct 38) tokens t1
   pub opens : OneWord file (codes "A") t1 t2
-  pub less : One (token.Punct 60) t2 t3
-  pub has_array : OneAt token.Word t3 t4 array
-  pub comma : One (token.Punct 44) t4 t5
-  pub has_index : One (token.Number index) t5 t6
-  pub more : One (token.Punct 62) t6 rest
+  pub less : Begins (token.Punct 60) t2 t3
+  pub has_array : BeginsAt token.Word array t3 t4
+  pub comma : Begins (token.Punct 44) t4 t5
+  pub has_index : Begins (token.Number index) t5 t6
+  pub more : Begins (token.Punct 62) t6 rest
 
 -- `&PV<s, n, w>`
 pub record IsPart (file : List ℕ) (tokens rest : List Spanned) (item : Name) (base width : ℕ) : Type 0 where
@@ -130,15 +121,15 @@ pub record IsPart (file : List ℕ) (tokens rest : List Spanned) (item : Name) (
   pub t6 : List Spanned
   pub t7 : List Spanned
   pub t8 : List Spanned
-  pub ampersand : One (token.Punct 38) tokens t1
+  pub ampersand : Begins (token.Punct 38) tokens t1
   pub opens : OneWord file (codes "PV") t1 t2
-  pub less : One (token.Punct 60) t2 t3
-  pub has_item : OneAt token.Word t3 t4 item
-  pub comma : One (token.Punct 44) t4 t5
-  pub has_base : One (token.Number base) t5 t6
-  pub second_comma : One (token.Punct 44) t6 t7
-  pub has_width : One (token.Number width) t7 t8
-  pub more : One (token.Punct 62) t8 rest
+  pub less : Begins (token.Punct 60) t2 t3
+  pub has_item : BeginsAt token.Word item t3 t4
+  pub comma : Begins (token.Punct 44) t4 t5
+  pub has_base : Begins (token.Number base) t5 t6
+  pub second_comma : Begins (token.Punct 44) t6 t7
+  pub has_width : Begins (token.Number width) t7 t8
+  pub more : Begins (token.Punct 62) t8 rest
 
 -- What stands between the size and the bits of a vector: a quote and the letter of its base, or a quote, `s` and that
 -- letter where it is signed. In a vector's token the quote is ' and the letter is b.
@@ -163,10 +154,10 @@ pub record IsVector (text : List ℕ) (value : List Bit) (signed : Bool) : Type 
 -- an argument, by its kind; a time word is no symbol
 abbrev pub IsArgument : List ℕ → List Spanned → List Spanned → Arg Name → Type 0
 IsArgument file tokens rest (a.Text bytes) =
-    (name : Name) × OneAt token.Text tokens rest name × (bytes ≡ text_of file name)
+    (name : Name) × BeginsAt token.Text name tokens rest × (bytes ≡ text_of file name)
 IsArgument file tokens rest (a.Based value signed) =
-    (name : Name) × OneAt token.Based tokens rest name × IsVector (bytes_of file name) value signed
-IsArgument file tokens rest (a.Symbol name) = OneAt token.Word tokens rest name × ¬ IsTimeWord (bytes_of file name)
+    (name : Name) × BeginsAt token.Based name tokens rest × IsVector (bytes_of file name) value signed
+IsArgument file tokens rest (a.Symbol name) = BeginsAt token.Word name tokens rest × ¬ IsTimeWord (bytes_of file name)
 IsArgument file tokens rest a.Time = OneWord file (codes "$time") tokens rest
 IsArgument file tokens rest a.ShortTime = OneWord file (codes "$stime") tokens rest
 IsArgument file tokens rest a.SimTime = OneWord file (codes "$simtime") tokens rest
@@ -180,18 +171,18 @@ pub record ArePops (tokens : List Spanned) (pops : ℕ) : Type 0 where
   pub t2 : List Spanned
   pub t3 : List Spanned
   pub t4 : List Spanned
-  pub opens : One (token.Punct 123) tokens t1
-  pub has_pops : One (token.Number pops) t1 t2
-  pub second : One (token.Number 0) t2 t3
-  pub third : One (token.Number 0) t3 t4
-  pub closes : One (token.Punct 125) t4 []
+  pub opens : Begins (token.Punct 123) tokens t1
+  pub has_pops : Begins (token.Number pops) t1 t2
+  pub second : Begins (token.Number 0) t2 t3
+  pub third : Begins (token.Number 0) t3 t4
+  pub closes : Begins (token.Punct 125) t4 []
 
 -- these arguments, each after a comma, and then the tokens `after`
 abbrev pub AreArguments : List ℕ → List Spanned → List (Arg Name) → List Spanned → Type 0
 AreArguments file tokens [] after = tokens ≡ after
 AreArguments file tokens (arg ∷ args) after =
     (t1 : List Spanned) × (rest : List Spanned)
-    × One (token.Punct 44) tokens t1 × IsArgument file t1 rest arg × AreArguments file rest args after
+    × Begins (token.Punct 44) tokens t1 × IsArgument file t1 rest arg × AreArguments file rest args after
 
 -- the words of a task call and of a function call
 abbrev pub IsTaskWord : List ℕ → Type 0

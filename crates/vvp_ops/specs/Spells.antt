@@ -12,9 +12,9 @@ use Rattle.vvp_ops.specs.declared.args.Arg.{Arg}
 use Rattle.vvp_ops.specs.declared.op.Op.{Op}
 use Rattle.vvp_ops.specs.declared.op.Op.TheVariants as o
 use Rattle.vvp_ops.specs.declared.operand.Operand.{Operand}
-use Rattle.vvp_ops.specs.Tokens.{span_of, bytes_of}
+use Rattle.vvp_lex.specs.Place.{span_of, bytes_of, Begins, BeginsAt}
 use Rattle.vvp_ops.specs.Table.{Row, rows, opcode_of}
-use Rattle.vvp_ops.specs.Spelled.{OneAt, One, AreOperands, AreArguments, ArePops, IsTaskWord, IsFunctionWord}
+use Rattle.vvp_ops.specs.Spelled.{AreOperands, AreArguments, ArePops, IsTaskWord, IsFunctionWord}
 
 -- A row of the table has the first token's bytes, the other tokens are operands of its kinds with commas between them,
 -- and the opcode is the one that the row means with these operands.
@@ -44,9 +44,9 @@ pub record SpellsTask (file : List ℕ) (tokens : List Spanned) (opcode : Op Nam
   pub pops : ℕ
   pub begins : tokens ≡ word ∷ rest
   pub is_spelled : IsTaskWord (bytes_of file (span_of word))
-  pub has_number : One (token.Number number) rest t1
-  pub has_line : One (token.Number line) t1 t2
-  pub has_name : OneAt token.Text t2 t3 name
+  pub has_number : Begins (token.Number number) rest t1
+  pub has_line : Begins (token.Number line) t1 t2
+  pub has_name : BeginsAt token.Text name t2 t3
   pub has_arguments : AreArguments file t3 args after
   pub has_pops : ArePops after pops
   pub means : opcode ≡ o.CallTask number line (text_of file name) args pops
@@ -69,10 +69,10 @@ pub record SpellsFunction (file : List ℕ) (tokens : List Spanned) (opcode : Op
   pub pops : ℕ
   pub begins : tokens ≡ word ∷ rest
   pub is_spelled : IsFunctionWord (bytes_of file (span_of word))
-  pub has_number : One (token.Number number) rest t1
-  pub has_line : One (token.Number line) t1 t2
-  pub has_name : OneAt token.Text t2 t3 name
-  pub has_width : One (token.Number width) t3 t4
+  pub has_number : Begins (token.Number number) rest t1
+  pub has_line : Begins (token.Number line) t1 t2
+  pub has_name : BeginsAt token.Text name t2 t3
+  pub has_width : Begins (token.Number width) t3 t4
   pub has_arguments : AreArguments file t4 args after
   pub has_pops : ArePops after pops
   pub means : opcode ≡ o.CallFunction number line (text_of file name) width args pops

@@ -1,58 +1,12 @@
--- What stands at a place among the tokens of a statement. Places count from 0.
-use Rattle.std.specs.Prelude.{◌≡◌, ℕ, ◌-◌, ◌^◌, Bool, false, ◌==◌, List, min, Option, None, Some, slice_get, slice_range, if◌then◌else◌}
+-- What stands at a place among the tokens of a statement, and what digits write. Places count from 0.
+use Rattle.std.specs.Prelude.{ℕ, ◌-◌, ◌^◌, List, min, Option, None, Some, slice_get, if◌then◌else◌}
 use Rattle.std.specs.Str.Parse.{digits_value}
-use Rattle.vvp_lex.specs.declared.types.Name.{Name}
 use Rattle.vvp_lex.specs.declared.types.Spanned.{Spanned}
 use Rattle.vvp_lex.specs.declared.types.Token.{Token}
-use Rattle.vvp_lex.specs.declared.types.Token.TheVariants as token
-use Rattle.vvp_lex.specs.Unescaped.{IsText}
-
--- the first step that gives none ends a reading
-infixl 10 ◌>>=◌
-abbrev pub ◌>>=◌ : {A B : Type 0} → Option A → (A → Option B) → Option B
-Some x >>= next = next x
-None >>= next = None
-
--- where a token lies
-abbrev pub span_of : Spanned → Name
-span_of found = record { from = found.from; to = found.to }
-
--- the bytes of a part of the file
-abbrev pub bytes_of : List ℕ → Name → List ℕ
-bytes_of file name = slice_range file name.from name.to
-
--- a token that is a text is a text of the file
-unfoldable pub IsTextOf : List ℕ → Spanned → Type 0
-IsTextOf file found = found.token ≡ token.Text → IsText file (span_of found)
-
-abbrev pub number_in : Token → Option ℕ
-number_in (token.Number value) = Some value
-number_in _ = None
-
--- a word or a text, and where it lies
-abbrev pub word_in : Token → Name → Option Name
-word_in token.Word span = Some span
-word_in _ span = None
-
-abbrev pub text_in : Token → Name → Option Name
-text_in token.Text span = Some span
-text_in _ span = None
-
-abbrev pub is_mark : ℕ → Token → Bool
-is_mark byte (token.Punct other) = other == byte
-is_mark byte _ = false
+use Rattle.vvp_lex.specs.Place.{◌>>=◌, is_mark}
 
 abbrev pub mark_in : ℕ → Token → Option (Unit {0})
 mark_in byte found = if is_mark byte found then Some tt else None
-
-unfoldable pub number_at : List Spanned → ℕ → Option ℕ
-number_at tokens place = slice_get tokens place >>= λ found. number_in found.token
-
-unfoldable pub word_at : List Spanned → ℕ → Option Name
-word_at tokens place = slice_get tokens place >>= λ found. word_in found.token (span_of found)
-
-unfoldable pub text_at : List Spanned → ℕ → Option Name
-text_at tokens place = slice_get tokens place >>= λ found. text_in found.token (span_of found)
 
 unfoldable pub mark_at : List Spanned → ℕ → ℕ → Option (Unit {0})
 mark_at tokens place byte = slice_get tokens place >>= λ found. mark_in byte found.token

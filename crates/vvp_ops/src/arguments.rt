@@ -3,16 +3,16 @@
 ghost use Rattle.std.specs.Prelude.{◌≡◌, ◌≤◌, ◌^◌, ◌+◌, All, IfOk, ◌++◌, ◌∷◌, [], ◌<◌, map, reverse, take, length};
 ghost use Rattle.std.specs.List.{prefix_len, AllPass};
 ghost use Rattle.std.specs.Char.{is_ascii_digit};
-ghost use Rattle.vvp_ops.specs.Tokens.{IsTextOf};
+ghost use Rattle.vvp_lex.specs.Place.{IsTextOf};
 ghost use Rattle.vvp_ops.specs.Arguments.{bit_of, vector_of, mark_len, sized_vector, based_argument, stack_type, stack_argument, array_argument, part_argument, place_argument, opens_stack, word_argument, argument_at};
 
 use crate::args::Arg;
-use crate::tokens::{
-    are_digits, byte_at, bytes_after, bytes_of, decimal, mark_at, number_at, span, word_at,
-};
+use crate::tokens::{are_digits, decimal, mark_at};
 use four_state::{Bit, Vec4};
 use std::alloc::{AllocError, Global};
-use vvp_lex::{Name, Spanned, Token, text_bytes};
+use vvp_lex::{
+    Name, Spanned, Token, byte_at, bytes_after, bytes_of, number_at, span, text_bytes, word_at,
+};
 
 /// The widest vector, in bits.
 const MOST_BITS: usize = 128;

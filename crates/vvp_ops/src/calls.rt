@@ -2,17 +2,17 @@
 
 ghost use Rattle.std.specs.Prelude.{◌≡◌, ◌≤◌, ◌^◌, All, IfOk, IfSome, length};
 ghost use Rattle.std.specs.Option.{option_map};
-ghost use Rattle.vvp_ops.specs.Tokens.{IsTextOf};
+ghost use Rattle.vvp_lex.specs.Place.{IsTextOf};
 ghost use Rattle.vvp_lex.specs.Unescaped.{text_of};
-ghost use Rattle.vvp_ops.specs.Tokens.{text_at};
+ghost use Rattle.vvp_lex.specs.Place.{text_at};
 ghost use Rattle.vvp_ops.specs.Calls.{is_task, is_function, arguments_of, zero_at, pops_of, task_of, function_of};
 
 use crate::args::Args;
 use crate::arguments::argument_at;
 use crate::op::Op;
-use crate::tokens::{mark_at, number_at, text_at, tokens_after};
+use crate::tokens::mark_at;
 use std::alloc::{AllocError, Global};
-use vvp_lex::{Bytes, Name, Spanned, text_bytes};
+use vvp_lex::{Bytes, Name, Spanned, number_at, text_at, text_bytes, tokens_after};
 
 /// Whether the word calls a task.
 #[tactic(auto, unfolding(crate::specs::Calls::is_task))]

@@ -5,8 +5,7 @@ ghost use Rattle.std.specs.List.{slice_get};
 ghost use Rattle.vvp_ops.specs.Operands.{symbol_as, number_as, operand_as, operand_at, comma_or_none, tokens_of, operands_of};
 
 use crate::table::Kind;
-use crate::tokens::span;
-use vvp_lex::{Name, Spanned, Token};
+use vvp_lex::{Name, Spanned, Token, span};
 
 /// An operand.
 #[derive(Clone, Copy)]

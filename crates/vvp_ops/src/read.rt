@@ -2,7 +2,7 @@
 
 ghost use Rattle.std.specs.Prelude.{◌≡◌, ◌≤◌, ◌^◌, All, map, length, Ok, Err};
 ghost use Rattle.std.specs.Option.{option_map};
-ghost use Rattle.vvp_ops.specs.Tokens.{IsTextOf};
+ghost use Rattle.vvp_lex.specs.Place.{IsTextOf};
 ghost use Rattle.vvp_ops.specs.Table.{rows, row_spelled, opcode_of};
 ghost use Rattle.vvp_ops.specs.Grammar.{known, read_row, read_word, read_tokens};
 ghost use Rattle.vvp_ops.specs.Statement.{Answers};
@@ -11,10 +11,9 @@ use crate::calls::{function_of, is_function, is_task, task_of};
 use crate::op::Op;
 use crate::operand::{Operand, operands};
 use crate::table::{Mnemonic, ROWS, Row};
-use crate::tokens::{bytes_of, span, tokens_after};
 use crate::unsupported::unsupported;
 use std::alloc::Global;
-use vvp_lex::{FormFault, FormKind, Name, Spanned};
+use vvp_lex::{FormFault, FormKind, Name, Spanned, bytes_of, span, tokens_after};
 
 /// The first row of a table that is spelled so.
 fn lookup(mut table: &[Row], word: &[u8]) -> Option<Row>

@@ -3,47 +3,29 @@
 ghost use Rattle.std.specs.Prelude.{◌≡◌, ◌↔◌, ◌≤◌, ◌^◌, Contains, IfOk, IfErr, IsTrue, length, slice_get};
 ghost use Rattle.vvp_lex.specs.Statement.{statements_of, tokens_of};
 ghost use Rattle.vvp_ops.specs.Grammar.{read_tokens};
-ghost use Rattle.vvp_ops.specs.Statement.{is_word, is_label_first, is_label, after_label, is_opcode, body_of, IsOpcode, Answers};
+ghost use Rattle.vvp_ops.specs.Statement.{has_label, after_label, is_opcode, body_of, IsOpcode, Answers};
 ghost use Rattle.vvp_ops.specs.Spells.{SpellsOnly, SpellsNone};
 
 use crate::op::Op;
 use crate::read::read_tokens;
-use crate::tokens::{byte_at, tokens_after};
 use std::alloc::Global;
-use vvp_lex::{FormFault, Name, Spanned, Stmt, Token, tokens};
+use vvp_lex::{FormFault, Name, Spanned, Stmt, byte_at, is_label, is_word, tokens, tokens_after};
 
-/// Whether the token is a word.
-fn is_word(token: Token) -> bool
-    ensures { result ≡ is_word token }
-{
-    match token {
-        Token::Word => true,
-        _ => false,
-    }
-}
-
-/// Whether a label may begin with the byte: a letter, `_`, `$` or `\`.
-fn is_label_first(byte: u8) -> bool
-    ensures { result ≡ is_label_first byte }
-{
-    byte.is_ascii_alphabetic() || byte == b'_' || byte == b'$' || byte == b'\\'
-}
-
-/// Whether a statement's first token is its label.
-fn is_label(src: &[u8], column_one: bool, tokens: &[Spanned]) -> bool
-    ensures { result ≡ is_label src.now column_one (slice_get tokens.now 0) }
+/// Whether the first token is the statement's label.
+fn has_label(src: &[u8], column_one: bool, tokens: &[Spanned]) -> bool
+    ensures { result ≡ has_label src.now column_one (slice_get tokens.now 0) }
 {
     if tokens.is_empty() {
         return false;
     }
-    column_one && is_word(tokens[0].token) && is_label_first(byte_at(src, tokens[0].from as usize))
+    is_label(src, column_one, tokens[0])
 }
 
 /// The tokens of a statement after its label.
 fn after_label<'a>(src: &[u8], column_one: bool, tokens: &'a [Spanned]) -> &'a [Spanned]
     ensures { result.now ≡ after_label src.now column_one tokens.now }
 {
-    if is_label(src, column_one, tokens) {
+    if has_label(src, column_one, tokens) {
         tokens_after(tokens, 1)
     } else {
         tokens

@@ -8,7 +8,7 @@ use Rattle.sim_core.specs.declared.program.EarlyOp.{EarlyOp}
 use Rattle.sim_core.specs.declared.program.EarlyProgram.{EarlyProgram}
 use Rattle.sim_core.specs.Engine.{IsRunnable}
 use Rattle.vvp_forms.specs.declared.form.StartKind.TheVariants as start
-use Rattle.vvp_forms.specs.Tokens.{◌>>=◌}
+use Rattle.vvp_lex.specs.Place.{◌>>=◌}
 use Rattle.vvp_lex.specs.declared.types.Stmt.{Stmt}
 use Rattle.vvp_top.specs.declared.link.Declared.{Declared}
 use Rattle.vvp_top.specs.declared.link.TheConstants.{MOST_OPCODES}

@@ -12,7 +12,7 @@ use Rattle.vvp_forms.specs.declared.form.Form.{Form}
 use Rattle.vvp_forms.specs.declared.form.Form.TheVariants as form
 use Rattle.vvp_forms.specs.Checks.{places}
 use Rattle.vvp_forms.specs.Reading.{form_spelled}
-use Rattle.vvp_forms.specs.Tokens.{◌>>=◌}
+use Rattle.vvp_lex.specs.Place.{◌>>=◌}
 use Rattle.vvp_ops.specs.Grammar.{read_tokens}
 use Rattle.vvp_ops.specs.Statement.{body_of, is_opcode}
 use Rattle.vvp_top.specs.declared.stated.Says.{Says}

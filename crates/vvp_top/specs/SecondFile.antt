@@ -10,7 +10,7 @@ use Rattle.vvp_forms.specs.declared.form.StartKind.{StartKind}
 use Rattle.vvp_forms.specs.declared.form.StartKind.TheVariants as start
 use Rattle.vvp_lex.specs.declared.types.Stmt.{Stmt}
 use Rattle.vvp_lex.specs.Statement.{Fault, lexical, statements_of}
-use Rattle.vvp_forms.specs.Tokens.{◌>>=◌}
+use Rattle.vvp_lex.specs.Place.{◌>>=◌}
 use Rattle.vvp_top.specs.declared.stated.Action.{Action}
 use Rattle.vvp_top.specs.declared.stated.Action.TheVariants as action
 use Rattle.vvp_top.specs.declared.stated.Says.{Says}

@@ -11,8 +11,9 @@ use Rattle.vvp_lex.specs.Statement.{tokens_of}
 use Rattle.vvp_forms.specs.declared.form.Form.{Form}
 use Rattle.vvp_forms.specs.declared.form.Form.TheVariants as form
 use Rattle.vvp_forms.specs.Checks.{places}
-use Rattle.vvp_forms.specs.Reading.{form_spelled, is_label}
-use Rattle.vvp_forms.specs.Tokens.{◌>>=◌, bytes_of, span_of}
+use Rattle.vvp_lex.specs.Label.{is_label}
+use Rattle.vvp_forms.specs.Reading.{form_spelled}
+use Rattle.vvp_lex.specs.Place.{◌>>=◌, bytes_of, span_of}
 use Rattle.vvp_ops.specs.declared.args.Arg.{Arg}
 use Rattle.vvp_ops.specs.declared.args.Arg.TheVariants as arg
 use Rattle.vvp_ops.specs.declared.op.Op.{Op}

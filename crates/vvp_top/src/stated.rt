@@ -2,8 +2,7 @@
 
 ghost use Rattle.std.specs.Prelude.{◌≡◌, ◌≤◌, ◌^◌, Contains, Some, None, length, if◌then◌else◌};
 ghost use Rattle.std.specs.Option.{option_map};
-ghost use Rattle.vvp_forms.specs.Tokens.{bytes_of};
-ghost use Rattle.vvp_forms.specs.Reading.{is_label};
+ghost use Rattle.vvp_lex.specs.Place.{bytes_of};
 ghost use Rattle.vvp_forms.specs.Checks.{places};
 ghost use Rattle.vvp_lex.specs.Statement.{statements_of, tokens_of};
 ghost use Rattle.vvp_top.specs.Stated.{action_said, call_said, form_said, is_plain, is_width, label_of, says_of, statement_said};
@@ -12,7 +11,7 @@ ghost use Rattle.vvp_top.specs.Views.{Reads, action_view, label_view, says_view,
 use crate::unread::Unread;
 use std::alloc::Global;
 use vvp_forms::{Form, Range, StartKind, read_form};
-use vvp_lex::{Bytes, Name, Spanned, Stmt, Token, tokens};
+use vvp_lex::{Bytes, Name, Spanned, Stmt, bytes_of, is_label, span, tokens};
 use vvp_ops::{Arg, Op, is_opcode, read_op};
 
 /// What an opcode does. Symbols are `S`.
@@ -66,39 +65,12 @@ pub(crate) struct Stated<S> {
     pub(crate) says: Says<S>,
 }
 
-/// The bytes of a part of the file.
-fn bytes_of(src: &[u8], name: Name) -> &[u8]
-    ensures { result.now ≡ bytes_of src.now name }
-{
-    let end = (name.to as usize).min(src.len());
-    let start = (name.from as usize).min(end);
-    &src[start..end]
-}
-
-/// Whether a token is a word that may be a label.
-fn is_label(src: &[u8], column_one: bool, first: &Spanned) -> bool
-    ensures { result ≡ is_label src.now column_one first.now }
-{
-    match (first.token, src.get(first.from as usize)) {
-        (Token::Word, Some(byte)) => {
-            column_one && (byte.is_ascii_alphabetic() || b"_$\\".contains(byte))
-        }
-        _ => false,
-    }
-}
-
 /// The label that stands at the front of a statement of these tokens.
 fn label_of<'a>(src: &'a [u8], column_one: bool, tokens: &[Spanned]) -> Option<&'a [u8]>
     ensures { label_view result ≡ label_of src.now column_one tokens.now }
 {
     match tokens.first() {
-        Some(first) if is_label(src, column_one, first) => {
-            let name = Name {
-                from: first.from,
-                to: first.to,
-            };
-            Some(bytes_of(src, name))
-        }
+        Some(first) if is_label(src, column_one, *first) => Some(bytes_of(src, span(*first))),
         _ => None,
     }
 }

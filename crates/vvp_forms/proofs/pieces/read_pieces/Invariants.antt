@@ -1,6 +1,6 @@
 use Rattle.std.proofs.Common.{◌≡◌, length}
 use Rattle.std.specs.List.{All}
-use Rattle.vvp_forms.specs.Tokens.{IsTextOf}
+use Rattle.vvp_lex.specs.Place.{IsTextOf}
 use Rattle.vvp_forms.specs.Operands.{no_operands, pieces_at}
 use Rattle.vvp_forms.proofs.pieces.read_pieces.Given as goal
 

@@ -1,7 +1,7 @@
 use Rattle.std.proofs.Common.{◌≡◌, length}
 use Rattle.std.specs.Option.{option_map}
 use Rattle.std.specs.List.{All}
-use Rattle.vvp_ops.specs.Tokens.{IsTextOf}
+use Rattle.vvp_lex.specs.Place.{IsTextOf}
 use Rattle.vvp_ops.specs.Calls.{arguments_of}
 use Rattle.vvp_ops.proofs.CallLemmas.{after_arguments}
 use Rattle.vvp_ops.proofs.calls.arguments.Given as goal

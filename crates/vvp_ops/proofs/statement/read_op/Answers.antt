@@ -5,11 +5,11 @@ use Rattle.vvp_ops.proofs.statement.read_op.Goals as goal
 
 pub read_tokens-requires-clause-texts : goal.read_tokens-requires-clause-texts
 read_tokens-requires-clause-texts c =
-    All-body c.args.src.now c.args.stmt.now c.deref.result.now c.after_label-body.result.now c.requires.given (c.deref.ensures.value ∙ c.in_ok-found.ensures) c.after_label-body.ensures
+    All-body c.args.src.now c.args.stmt.now c.deref.result.now c.after_label-body.result.now c.requires.given (c.deref.ensures.value ∙ c.in_ok-found.ensures.value) c.after_label-body.ensures
 
 pub returns-clause-answer : goal.returns-clause-answer
 returns-clause-answer c =
-    answer_of-body c.args.src.now c.args.stmt.now c.deref.result.now c.after_label-body.result.now c.read_tokens.result (c.deref.ensures.value ∙ c.in_ok-found.ensures) c.after_label-body.ensures c.read_tokens.ensures
+    answer_of-body c.args.src.now c.args.stmt.now c.deref.result.now c.after_label-body.result.now c.read_tokens.result (c.deref.ensures.value ∙ c.in_ok-found.ensures.value) c.after_label-body.ensures c.read_tokens.ensures
 
 pub returns-clause-spells : goal.returns-clause-spells
 returns-clause-spells c =

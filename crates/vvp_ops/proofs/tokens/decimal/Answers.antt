@@ -1,6 +1,6 @@
 use Rattle.std.proofs.Common.{◌-◌, ◌^◌}
 use Rattle.vvp_ops.specs.Tokens.{decimal}
-use Rattle.vvp_ops.proofs.TokenLemmas.{decimal-more, decimal-all, min-fits}
+use Rattle.vvp_ops.proofs.DigitLemmas.{decimal-more, decimal-all, min-fits}
 use Rattle.vvp_ops.proofs.tokens.decimal.Goals as goal
 
 pub loop-digit-preserved : goal.loop-digit-preserved
