@@ -7,7 +7,7 @@ ghost use Rattle.vvp_top.specs.Whole.{fixed_line, line_of, status_of, trap_name}
 
 use itoa::Buffer;
 use sim_core::TrapKind;
-use vvp_edge::{Failed, Sink, send_all};
+use vvp_edge::{Sink, send_all};
 
 /// How a call of the program ends.
 #[derive(Clone, Copy, Debug, PartialEq, Eq)]
@@ -50,13 +50,15 @@ fn trap_name(kind: TrapKind) -> &'static [u8]
 }
 
 // Says pieces one after another, up to the first that fails.
-fn say_pieces<M: Sink>(errs: &mut M, pieces: &[&[u8]]) -> Result<(), Failed>
+fn say_pieces<M: Sink>(errs: &mut M, pieces: &[&[u8]])
     ensures { Says (flat_map (λ piece. piece.now) pieces.now) (M.held errs.old) (M.held errs.new) (M.faults errs.old) (M.faults errs.new) }
 {
     for piece in pieces {
-        send_all(errs, piece)?;
+        match send_all(errs, piece) {
+            Ok(()) => {}
+            Err(_) => return,
+        }
     }
-    Ok(())
 }
 
 impl Outcome {
@@ -100,13 +102,13 @@ impl Outcome {
         ensures { Says (line_of self) (M.held errs.old) (M.held errs.new) (M.faults errs.old) (M.faults errs.new) }
     {
         let line = self.fixed_line();
-        let _said = match self {
+        match self {
             Outcome::Trap { kind, address } => {
                 let mut digits = Buffer::new();
                 let address = digits.format(address).as_bytes();
-                say_pieces(errs, &[line, trap_name(kind), b" at ", address, b"\n"])
+                say_pieces(errs, &[line, trap_name(kind), b" at ", address, b"\n"]);
             }
-            _ => send_all(errs, line),
-        };
+            _ => say_pieces(errs, &[line]),
+        }
     }
 }
