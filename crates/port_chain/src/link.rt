@@ -54,7 +54,7 @@ impl Link {
         (self.0 % 4) as u8
     }
 
-    // The place of the port where the ports of all nodes lie one after another, four a node.
+    /// The place of the port where the ports of all nodes lie one after another, four a node.
     pub(crate) fn place(self) -> usize
         ensures place { result ≡ place_of self }
         ensures port { self.port < 4 }

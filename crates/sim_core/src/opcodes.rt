@@ -88,7 +88,7 @@ fn store(stack: &mut Stack, var: u32, width: u8) -> Effect
     }
 }
 
-// The opcode at a place of the code.
+/// The opcode at a place of the code.
 pub(crate) fn op_at(code: &[EarlyOp], place: usize) -> &EarlyOp
     requires { place < length code.now }
     ensures { slice_get code.now place ≡ Some result.now }
@@ -96,7 +96,7 @@ pub(crate) fn op_at(code: &[EarlyOp], place: usize) -> &EarlyOp
     &code[place]
 }
 
-// Whether a task ends the run.
+/// Whether a task ends the run.
 pub(crate) fn finishes(op: &EarlyOp) -> bool
     ensures { result ≡ finishes op.now }
 {

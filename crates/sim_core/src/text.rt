@@ -6,7 +6,7 @@ use crate::program::EarlyOp;
 use four_state::{Bit, Vec4};
 use std::alloc::AllocError;
 
-// Appends what a task prints; where memory is wanting, a part of it.
+/// Appends what a task prints; where memory is wanting, a part of it.
 pub(crate) fn print(op: &EarlyOp, values: &[Vec4], out: &mut Vec<u8>) -> Result<(), AllocError>
     requires { IsTrue (fits (length values.now) op.now) }
     ensures ok { OnOk result (out.new.items ≡ out.old.items ++ text_of op.now values.now) }

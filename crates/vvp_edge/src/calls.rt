@@ -32,6 +32,7 @@ impl Model for Calls {
 }
 
 impl Calls {
+    /// No call was made, and none is to fail.
     pub(crate) fn new(alloc: Global) -> Calls
         ensures { result ≡ record { made = 0; failing = [] } }
     {
