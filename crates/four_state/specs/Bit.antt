@@ -36,3 +36,26 @@ blend_bit Zero Zero = Zero
 blend_bit One One = One
 blend_bit HighZ HighZ = HighZ
 blend_bit left right = Unknown
+
+-- what two drivers of one strength make together: z yields, equal bits stay, others are x
+abbrev pub resolve_bit : Bit → Bit → Bit
+resolve_bit HighZ right = right
+resolve_bit left HighZ = left
+resolve_bit Zero Zero = Zero
+resolve_bit One One = One
+resolve_bit left right = Unknown
+
+-- 1 where both are equal or one is z, as `casez` compares (IEEE 1364-2005, 9.5.1); else 0
+abbrev pub match_z_bit : Bit → Bit → Bit
+match_z_bit HighZ right = One
+match_z_bit left HighZ = One
+match_z_bit Zero Zero = One
+match_z_bit One One = One
+match_z_bit Unknown Unknown = One
+match_z_bit left right = Zero
+
+-- 1 where both are equal or one is x or z, as `casex` compares (IEEE 1364-2005, 9.5.1); else 0
+abbrev pub match_x_bit : Bit → Bit → Bit
+match_x_bit Zero One = Zero
+match_x_bit One Zero = Zero
+match_x_bit left right = One

@@ -5,7 +5,7 @@ use Rattle.std.specs.Option.{is_some}
 use Rattle.std.proofs.lemmas.Bool.{cases_lt}
 use Rattle.std.proofs.lemmas.List.{append-nil}
 use Rattle.event_pool.specs.declared.agenda.Act.{Act}
-use Rattle.event_pool.specs.declared.agenda.Act.TheVariants.{Run, Eval, Update}
+use Rattle.event_pool.specs.declared.agenda.Act.TheVariants.{Run, Eval, Update, Mature}
 use Rattle.event_pool.specs.declared.agenda.Due.{Due}
 use Rattle.event_pool.specs.Schedule.{active_dues}
 use Rattle.sim_core.specs.declared.ending.Ending.{Ending}
@@ -78,6 +78,7 @@ ready-out machine =
 
 apply-out : (act : Act) (machine : Machine) → (apply act machine).tasks.out ≡ machine.tasks.out
 apply-out (Eval item) machine = refl
+apply-out (Mature item serial) machine = refl
 apply-out (Update item word offset value) machine = refl
 apply-out (Run serial key) machine = elim (is_some (thread_of (slice_get machine.threads.frames serial))) as (λ b. (cond b (with_running (Some serial) machine) machine).tasks.out ≡ machine.tasks.out) [ true ↦ refl | false ↦ refl ]
 

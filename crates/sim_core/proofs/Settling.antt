@@ -4,7 +4,7 @@ use Rattle.std.specs.List.{list_any, slice_get}
 use Rattle.std.specs.Option.{is_some}
 use Rattle.std.proofs.lemmas.Bool.{eqb-true}
 use Rattle.event_pool.specs.declared.agenda.Act.{Act}
-use Rattle.event_pool.specs.declared.agenda.Act.TheVariants.{Run, Eval, Update}
+use Rattle.event_pool.specs.declared.agenda.Act.TheVariants.{Run, Eval, Update, Mature}
 use Rattle.event_pool.specs.declared.agenda.Due.{Due}
 use Rattle.event_pool.specs.declared.agenda.Region.TheVariants.{Active}
 use Rattle.event_pool.specs.declared.agenda.Settled.TheVariants.{Ready, TimeEnds, Empty}
@@ -80,6 +80,7 @@ ready-empty machine dues pending state h =
 
 apply-runner : (act : Act) (machine : Machine) → machine.threads.running ≡ None → is_keyed act ≡ true → apply (unkeyed_act act) machine ≡ with_running (runner_of machine.threads.frames act) machine
 apply-runner (Eval item) machine none keyed = rw (← none) refl
+apply-runner (Mature item serial) machine none keyed = rw (← none) refl
 apply-runner (Update item word offset value) machine none keyed = rw (← none) refl
 apply-runner (Run serial key) machine none keyed =
     let same : key ≡ serial = eqb-true key serial keyed in

@@ -5,7 +5,7 @@ use Rattle.std.specs.Option.{ForSome}
 use Rattle.four_state.specs.declared.bits.Bit.{Bit}
 use Rattle.event_pool.specs.declared.agenda.Due.{Due}
 use Rattle.event_pool.specs.declared.agenda.Act.{Act}
-use Rattle.event_pool.specs.declared.agenda.Act.TheVariants.{Run, Eval, Update}
+use Rattle.event_pool.specs.declared.agenda.Act.TheVariants.{Run, Eval, Update, Mature}
 use Rattle.event_pool.specs.declared.agenda.Settled.{Settled}
 use Rattle.event_pool.specs.declared.agenda.Settled.TheVariants.{Ready, TimeEnds, Empty}
 use Rattle.event_pool.specs.Order.{in_order}
@@ -19,6 +19,7 @@ use Rattle.sim_core.specs.Text.{IsBetween}
 abbrev pub unkeyed_act : Act → Act
 unkeyed_act (Run serial key) = Run serial 0
 unkeyed_act (Eval item) = Eval item
+unkeyed_act (Mature item serial) = Mature item serial
 unkeyed_act (Update item word offset value) = Update item word offset value
 
 abbrev pub unkeyed : Due → Due
@@ -64,6 +65,7 @@ IsRunnable program = IsTrue (list_all (fits (length program.widths)) program.cod
 abbrev pub is_keyed : Act → Bool
 is_keyed (Run serial key) = nat_eq key serial
 is_keyed (Eval item) = true
+is_keyed (Mature item serial) = true
 is_keyed (Update item word offset value) = true
 
 abbrev pub IsKeyed : Due → Type 0
@@ -82,6 +84,7 @@ pub record IsSound (program : EarlyProgram) (frames : List (Option Frame)) (runn
 abbrev pub runner_of : List (Option Frame) → Act → Option ℕ
 runner_of frames (Run serial key) = if is_some (thread_of (slice_get frames key)) then Some key else None
 runner_of frames (Eval item) = None
+runner_of frames (Mature item serial) = None
 runner_of frames (Update item word offset value) = None
 
 -- whether a settled agenda has a due to take

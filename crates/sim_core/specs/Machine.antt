@@ -4,7 +4,7 @@ use Rattle.std.specs.List.{list_any}
 use Rattle.four_state.specs.declared.bits.Bit.{Bit}
 use Rattle.event_pool.specs.declared.agenda.Due.{Due}
 use Rattle.event_pool.specs.declared.agenda.Act.{Act}
-use Rattle.event_pool.specs.declared.agenda.Act.TheVariants.{Run, Eval, Update}
+use Rattle.event_pool.specs.declared.agenda.Act.TheVariants.{Run, Eval, Update, Mature}
 use Rattle.event_pool.specs.declared.agenda.Region.{Region}
 use Rattle.event_pool.specs.declared.agenda.Region.TheVariants.{Active, Inactive}
 use Rattle.event_pool.specs.Schedule.{active_dues, is_active_at, least_time, settled_dues, without_nth}
@@ -180,6 +180,7 @@ ready machine = let now_settled = settle machine in if is_ready now_settled then
 abbrev pub apply : Act → Machine → Machine
 apply (Run serial key) machine = if is_some (thread_of (slice_get machine.threads.frames serial)) then with_running (Some serial) machine else machine
 apply (Eval item) machine = machine
+apply (Mature item serial) machine = machine
 apply (Update item word offset value) machine = machine
 
 -- the due that was found is taken away and applied
