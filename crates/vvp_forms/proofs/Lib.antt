@@ -5,6 +5,4 @@ pub mod PieceLemmas
 pub mod PiecesLaw
 pub mod Rows
 pub mod SpellsLemmas
-pub mod TextLemmas
-pub mod VectorLemmas
 pub mod Words

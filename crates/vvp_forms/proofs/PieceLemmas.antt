@@ -5,8 +5,7 @@ use Rattle.vvp_lex.specs.declared.types.Name.{Name}
 use Rattle.vvp_lex.specs.declared.types.Spanned.{Spanned}
 use Rattle.vvp_forms.specs.declared.table.Piece.{Piece}
 use Rattle.vvp_forms.specs.declared.pieces.Operands.{Operands}
-use Rattle.vvp_lex.specs.Place.{word_at}
-use Rattle.vvp_forms.specs.Tokens.{is_mark_at}
+use Rattle.vvp_lex.specs.Place.{word_at, is_mark_at}
 use Rattle.vvp_forms.specs.Operands.{symbols_of, symbols_after, with_name, piece_at, ends_before, pieces_at}
 
 -- the names found so far, before those that are left

@@ -11,7 +11,7 @@ use Rattle.vvp_forms.specs.declared.pieces.Operands.{Operands}
 use Rattle.vvp_lex.specs.Place.{◌>>=◌, Begins}
 use Rattle.vvp_forms.specs.Operands.{piece_at, ends_before, pieces_at}
 use Rattle.vvp_forms.specs.Pieces.{IsInteger, AreSymbols, IsPiece, EndsAt, ArePieces}
-use Rattle.vvp_forms.proofs.FrontLemmas.{some_inj, bind_some}
+use Rattle.vvp_lex.proofs.FrontLemmas.{some_inj, bind-some}
 use Rattle.vvp_forms.proofs.PieceLaw.{piece-sound, piece-complete}
 
 -- where the operands end before a piece
@@ -96,7 +96,7 @@ pieces-sound file (p ∷ pieces) before after tokens is =
     by : (ends : Bool) → ends_before p tokens ≡ ends → ((middle : Operands) (rest : List Spanned) → pieces_at file pieces middle rest ≡ Some after → ArePieces file pieces middle after rest) → (if ends then Some before else (piece_at file p before tokens >>= pieces_after file pieces tokens)) ≡ Some after → ArePieces file (p ∷ pieces) before after tokens
     by true e later h = inl (ends-sound p tokens e, sym (some_inj before after h))
     by false e later h =
-        let read = bind_some (piece_at file p before tokens) (pieces_after file pieces tokens) after h in
+        let read = bind-some (piece_at file p before tokens) (pieces_after file pieces tokens) after h in
         inr (read.0.0, drop read.0.1 tokens, piece-sound file p before read.0.0 read.0.1 tokens read.1, later read.0.0 (drop read.0.1 tokens) read.2)
 
 -- the operands that are spelled so are read

@@ -2,7 +2,7 @@ use Rattle.std.proofs.Common.{◌≡◌, ℕ, zero, suc, ◌<◌, Bool, true, fa
 use Rattle.std.specs.Prelude.{IfOk, IfErr}
 use Rattle.std.specs.List.{Contains}
 use Rattle.std.specs.Str.{bytes_eq}
-use Rattle.std.proofs.lemmas.Bool.{not-true}
+use Rattle.std.proofs.lemmas.Bool.{not-true, and_parts}
 use Rattle.std.proofs.lemmas.Slice.Eq.{bytes_eq-Decides}
 use Rattle.vvp_lex.specs.declared.types.Spanned.{Spanned}
 use Rattle.vvp_lex.specs.declared.types.Token.{Token}
@@ -17,8 +17,7 @@ use Rattle.vvp_forms.specs.declared.table.Label.TheVariants as label
 use Rattle.vvp_forms.specs.declared.table.Row.{Row}
 use Rattle.vvp_forms.specs.declared.table.Row.TheVariants as row
 use Rattle.vvp_forms.specs.declared.pieces.Operands.{Operands}
-use Rattle.vvp_lex.specs.Place.{span_of, bytes_of}
-use Rattle.vvp_forms.specs.Tokens.{is_mark_at}
+use Rattle.vvp_lex.specs.Place.{span_of, bytes_of, is_mark_at}
 use Rattle.vvp_forms.specs.Table.{Spelling, rows, fits, row_spelled, label_of, pieces_of}
 use Rattle.vvp_forms.specs.Operands.{no_operands, pieces_at}
 use Rattle.vvp_forms.specs.Checks.{◌>>=◌, needed}
@@ -48,14 +47,6 @@ unfolding rows
 rows-distinct true = refl
 rows-distinct false = refl
 
-both-left : (a b : Bool) → (a && b) ≡ true → a ≡ true
-both-left true b h = refl
-both-left false b h = h
-
-both-right : (a b : Bool) → (a && b) ≡ true → b ≡ true
-both-right true b h = h
-both-right false b h = absurd (cc)
-
 other-right : (a b : Bool) → a ≡ true → (a && b) ≡ false → b ≡ false
 other-right true b is h = h
 other-right false b is h = absurd (cc)
@@ -66,15 +57,15 @@ bytes_eq-refl word = (bytes_eq-Decides word word).1 refl
 no_match-at : (spelling : Spelling) (has_comma : Bool) (table : List Spelling) (k : ℕ) (default : Spelling) → no_match spelling has_comma table ≡ true → k < length table → fits (get_or table k default).1 has_comma ≡ true → is_match spelling (get_or table k default).0 has_comma ≡ false
 no_match-at spelling has_comma [] k default h lt fit = absurd (omega arith)
 no_match-at spelling has_comma (other ∷ more) zero default h lt fit =
-    other-right _ _ fit (not-true _ (both-left _ _ h))
+    other-right _ _ fit (not-true _ (and_parts _ _ h).0)
 no_match-at spelling has_comma (other ∷ more) (suc k) default h lt fit =
-    no_match-at spelling has_comma more k default (both-right _ _ h) (omega arith) fit
+    no_match-at spelling has_comma more k default (and_parts _ _ h).1 (omega arith) fit
 
 row_spelled-at : (table : List Spelling) (k : ℕ) (default : Spelling) (has_comma : Bool) → are_distinct has_comma table ≡ true → k < length table → fits (get_or table k default).1 has_comma ≡ true → row_spelled table (get_or table k default).0 has_comma ≡ Some (get_or table k default).2
 row_spelled-at [] k default has_comma h lt fit = absurd (omega arith)
 row_spelled-at (spelling ∷ more) zero default has_comma h lt fit = rw (bytes_eq-refl spelling.0, fit) refl
 row_spelled-at (spelling ∷ more) (suc k) default has_comma h lt fit =
-    rw (no_match-at spelling has_comma more k default (both-left _ _ h) (omega arith) fit) (row_spelled-at more k default has_comma (both-right _ _ h) (omega arith) fit)
+    rw (no_match-at spelling has_comma more k default (and_parts _ _ h).0 (omega arith) fit) (row_spelled-at more k default has_comma (and_parts _ _ h).1 (omega arith) fit)
 
 -- in a table with no two alike, each spelling is found
 row_spelled-contains : (table : List Spelling) (spelling : Spelling) (has_comma : Bool) → are_distinct has_comma table ≡ true → Contains table spelling → fits spelling.1 has_comma ≡ true → row_spelled table spelling.0 has_comma ≡ Some spelling.2
@@ -98,7 +89,7 @@ row_spelled-found (first ∷ more) word has_comma found h =
     by : (same : Bool) → is_match first word has_comma ≡ same → (row_spelled more word has_comma ≡ Some found → Found more word has_comma found) → (if same then Some first.2 else row_spelled more word has_comma) ≡ Some found → Found (first ∷ more) word has_comma found
     by true e later is =
         let named : found ≡ first.2 = cc in
-        (first, (0, omega arith, refl), (bytes_eq-Decides first.0 word).0 (both-left _ _ e), both-right _ _ e, named)
+        (first, (0, omega arith, refl), (bytes_eq-Decides first.0 word).0 (and_parts _ _ e).0, (and_parts _ _ e).1, named)
     by false e later is = deeper (later is)
 
 bind_ok : {A B : Type 0} (r : Result A FormKind) (f : A → Result B FormKind) (y : B) → (r >>= f) ≡ Ok y → (x : A) × (r ≡ Ok x) × (f x ≡ Ok y)

@@ -1,4 +1,3 @@
-pub mod Tokens
 pub mod Table
 pub mod Numbers
 pub mod Ports

@@ -1,8 +1,7 @@
 -- Numbers with a sign. Marks are given by their codes: + is 43, - is 45.
 use Rattle.std.specs.Prelude.{ℕ, ◌^◌, ℤ, pos, neg_ℤ, nat_lt, List, Option, None, Some, if◌then◌else◌}
 use Rattle.vvp_lex.specs.declared.types.Spanned.{Spanned}
-use Rattle.vvp_lex.specs.Place.{◌>>=◌, number_at}
-use Rattle.vvp_forms.specs.Tokens.{is_mark_at}
+use Rattle.vvp_lex.specs.Place.{◌>>=◌, number_at, is_mark_at}
 
 -- a number of at most 2^31 - 1
 unfoldable pub size_at : List Spanned → ℕ → Option ℕ

@@ -9,8 +9,7 @@ use Rattle.vvp_forms.specs.declared.form.Port.TheVariants as port
 use Rattle.vvp_forms.specs.declared.table.Piece.{Piece}
 use Rattle.vvp_forms.specs.declared.table.Piece.TheVariants as piece
 use Rattle.vvp_forms.specs.declared.pieces.Operands.{Operands}
-use Rattle.vvp_lex.specs.Place.{◌>>=◌, is_mark, word_in, span_of, number_at, word_at, text_at}
-use Rattle.vvp_forms.specs.Tokens.{is_mark_at}
+use Rattle.vvp_lex.specs.Place.{◌>>=◌, is_mark, word_in, span_of, number_at, word_at, text_at, is_mark_at}
 use Rattle.vvp_forms.specs.Numbers.{integer_at, power_at}
 use Rattle.vvp_forms.specs.Ports.{port_at}
 

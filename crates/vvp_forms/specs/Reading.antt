@@ -15,8 +15,7 @@ use Rattle.vvp_forms.specs.declared.table.Label.TheVariants as label
 use Rattle.vvp_forms.specs.declared.table.Row.{Row}
 use Rattle.vvp_forms.specs.declared.table.Row.TheVariants as row
 use Rattle.vvp_lex.specs.Label.{is_label}
-use Rattle.vvp_lex.specs.Place.{span_of, bytes_of}
-use Rattle.vvp_forms.specs.Tokens.{is_mark_at}
+use Rattle.vvp_lex.specs.Place.{span_of, bytes_of, is_mark_at}
 use Rattle.vvp_forms.specs.Table.{rows, row_spelled, label_of, pieces_of}
 use Rattle.vvp_forms.specs.Unsupported.{is_unsupported}
 use Rattle.vvp_forms.specs.Operands.{no_operands, pieces_at}

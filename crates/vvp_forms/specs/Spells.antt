@@ -12,8 +12,7 @@ use Rattle.vvp_forms.specs.declared.table.Label.TheVariants as label
 use Rattle.vvp_forms.specs.declared.table.Row.{Row}
 use Rattle.vvp_forms.specs.declared.table.Row.TheVariants as row
 use Rattle.vvp_forms.specs.declared.pieces.Operands.{Operands}
-use Rattle.vvp_lex.specs.Place.{span_of, bytes_of}
-use Rattle.vvp_forms.specs.Tokens.{is_mark_at}
+use Rattle.vvp_lex.specs.Place.{span_of, bytes_of, is_mark_at}
 use Rattle.vvp_forms.specs.Table.{Spelling, rows, fits, label_of, pieces_of}
 use Rattle.vvp_forms.specs.Operands.{no_operands}
 use Rattle.vvp_forms.specs.Pieces.{ArePieces}

@@ -1,19 +1,10 @@
 -- the words of statements that are known and not supported
-use Rattle.std.specs.Prelude.{ℕ, Bool, false, ◌||◌, List, [], ◌∷◌, nat_eq, codes}
-use Rattle.std.specs.List.{starts_with}
-use Rattle.std.specs.Str.{bytes_eq}
-
-abbrev pub is_one : List ℕ → List (List ℕ) → Bool
-is_one word [] = false
-is_one word (text ∷ texts) = bytes_eq word text || is_one word texts
-
-abbrev pub begins_with_one : List ℕ → List (List ℕ) → Bool
-begins_with_one word [] = false
-begins_with_one word (text ∷ texts) = starts_with nat_eq word text || begins_with_one word texts
+use Rattle.std.specs.Prelude.{ℕ, Bool, ◌||◌, List, [], ◌∷◌, codes}
+use Rattle.vvp_lex.specs.Words.{is_one, begins_with_one}
 
 unfoldable pub words : List (List ℕ)
 words =
-    codes ".delay" ∷ codes ".var/real" ∷ codes ".var/str" ∷ codes ".var/2s" ∷ codes ".var/2u" ∷ codes ".net/real" ∷ codes ".array/real" ∷ codes ".array/str" ∷ codes ".array/2s" ∷ codes ".array/2u" ∷ codes ".array/port" ∷ []
+    codes ".var/real" ∷ codes ".var/str" ∷ codes ".var/2s" ∷ codes ".var/2u" ∷ codes ".net/real" ∷ codes ".array/real" ∷ codes ".array/str" ∷ codes ".array/2s" ∷ codes ".array/2u" ∷ codes ".array/port" ∷ []
 
 unfoldable pub beginnings : List (List ℕ)
 beginnings =

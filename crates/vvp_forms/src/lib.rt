@@ -17,7 +17,6 @@ mod read;
 mod table;
 #[cfg(test)]
 mod tests;
-mod tokens;
 mod unsupported;
 
 pub use form::{

@@ -5,8 +5,8 @@ ghost use Rattle.vvp_forms.specs.Forms.{form_of};
 
 use crate::form::Form;
 use crate::gates::{
-    arithmetic, compare, concat, extend, functor, part, part_from, part_into, reduce, repeat,
-    resolver, shift,
+    arithmetic, compare, concat, delay, extend, functor, part, part_from, part_into, reduce,
+    repeat, resolver, shift,
 };
 use crate::items::{
     array, current_scope, edge_event, net, precision, scope, thread, time_scale, variable,
@@ -43,6 +43,7 @@ pub fn form_of(src: &[u8], row: Row, operands: Operands) -> Result<Form, FormKin
         Row::Reduce(kind) => reduce(kind, &operands),
         Row::Repeat => repeat(&operands),
         Row::Extend => extend(&operands),
+        Row::Delay => delay(&operands),
         Row::EdgeEvent => edge_event(src, operands),
         Row::NamedEvent => Ok(Form::NamedEvent {
             name: operands.text,

@@ -3,8 +3,7 @@
 ghost use Rattle.std.specs.Prelude.{◌≡◌, ◌<◌, ◌^◌, IfSome};
 ghost use Rattle.vvp_forms.specs.Numbers.{size_at, integer_at, power_at};
 
-use crate::tokens::is_mark_at;
-use vvp_lex::{Spanned, number_at};
+use vvp_lex::{Spanned, is_mark_at, number_at};
 
 /// The number of at most 2^31 - 1 at a place.
 #[tactic(auto, unfolding(crate::specs::Numbers::size_at))]

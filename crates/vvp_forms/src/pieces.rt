@@ -2,18 +2,16 @@
 
 ghost use Rattle.std.specs.Prelude.{◌≡◌, ◌≤◌, ◌^◌, [], All, IfOk, length, slice_set};
 ghost use Rattle.std.specs.Option.{option_map};
-ghost use Rattle.vvp_lex.specs.Unescaped.{text_of};
 ghost use Rattle.vvp_forms.specs.declared.table.Piece.TheVariants as piece;
-ghost use Rattle.vvp_lex.specs.Place.{IsTextOf, text_at};
+ghost use Rattle.vvp_lex.specs.Place.{IsTextOf};
 ghost use Rattle.vvp_forms.specs.Operands.{no_operands, symbols_of, drives_at, piece_at, ends_before, pieces_at};
 
 use crate::form::{Names, Port};
 use crate::numbers::{integer_at, power_at};
 use crate::ports::port_at;
 use crate::table::Piece;
-use crate::tokens::is_mark_at;
 use std::alloc::{AllocError, Global};
-use vvp_lex::{Bytes, Name, Spanned, number_at, text_at, text_bytes, tokens_after, word_at};
+use vvp_lex::{Bytes, Name, Spanned, is_mark_at, number_at, text_bytes_at, tokens_after, word_at};
 
 /// The values of a row's operands, each in the slot that its piece names.
 #[derive(Drop)]
@@ -90,23 +88,6 @@ fn set_port(ports: &mut [Port], slot: usize, value: Port)
 {
     if slot < ports.len() {
         ports[slot] = value;
-    }
-}
-
-/// The bytes that the text at a place stands for. The only error is want of memory.
-fn text_bytes_at(
-    alloc: Global,
-    src: &[u8],
-    tokens: &[Spanned],
-    place: usize,
-) -> Result<Option<Bytes>, AllocError>
-    requires small { length src.now ≤ 2 ^ 26 }
-    requires texts { All (IsTextOf src.now) tokens.now }
-    ensures { IfOk result (λ read. read ≡ option_map (text_of src.now) (text_at tokens.now place)) }
-{
-    match text_at(tokens, place) {
-        Some(name) => Ok(Some(text_bytes(alloc, src, name)?)),
-        None => Ok(None),
     }
 }
 

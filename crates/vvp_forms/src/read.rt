@@ -11,11 +11,11 @@ use crate::form::Form;
 use crate::make::form_of;
 use crate::pieces::read_pieces;
 use crate::table::{Label, Row, label_of, pieces_of, row_for};
-use crate::tokens::is_mark_at;
 use crate::unsupported::unsupported;
 use std::alloc::Global;
 use vvp_lex::{
-    FormFault, FormKind, Spanned, Stmt, Token, bytes_of, is_label, span, tokens, tokens_after,
+    FormFault, FormKind, Spanned, Stmt, Token, bytes_of, is_label, is_mark_at, span, tokens,
+    tokens_after,
 };
 
 /// A row that was found for the word, or why there is none.

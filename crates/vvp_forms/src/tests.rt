@@ -263,6 +263,20 @@ fn show_gate(shown: &mut Shown, rt: &HostRuntime, form: &Form) -> Result<(), All
             shown.number(rt, u64::from(*width))?;
             shown.port(port)
         }
+        Form::Delay {
+            width,
+            rise,
+            fall,
+            decay,
+            port,
+        } => {
+            shown.word(b"delay")?;
+            shown.number(rt, u64::from(*width))?;
+            shown.number(rt, *rise)?;
+            shown.number(rt, *fall)?;
+            shown.number(rt, *decay)?;
+            shown.name(*port)
+        }
         Form::EdgeEvent { kind, ports } => {
             shown.word(b"edge")?;
             shown.number(rt, u64::from(*kind as u8))?;
@@ -332,7 +346,7 @@ fn text_of(rt: &HostRuntime, src: &[u8]) -> Result<Vec<u8>, Fail> {
 }
 
 #[rattlefmt::skip]
-const SPELLED: [(&[u8], &[u8]); 77] = [
+const SPELLED: [(&[u8], &[u8]); 78] = [
     (b":ivl_version \"11.0\";", b" ignored"),
     (b":ivl_version \"11.0\" \"(stable)\";", b" ignored"),
     (b":ivl_delay_selection \"TYPICAL\";", b" ignored"),
@@ -400,6 +414,7 @@ const SPELLED: [(&[u8], &[u8]); 77] = [
     (b"L .reduce/xnor a;", b" reduce 5 a"),
     (b"L .repeat 8, 4, a;", b" repeat 8 4 a"),
     (b"L .extend/s 8, a;", b" extend 8 a"),
+    (b"d_0 .delay 1 (3, 5, 2) v_0;", b" delay 1 3 5 2 v_0"),
     (b"E .event posedge, a;", b" edge 0 a - - -"),
     (b"E .event negedge, C4<>, a;", b" edge 1 - a - -"),
     (b"E .event edge, a, b, c, d;", b" edge 2 a b c d"),
@@ -422,7 +437,7 @@ fn spelled(rt: HostRuntime) -> Result<(), Fail> {
 }
 
 #[rattlefmt::skip]
-const REFUSED: [(&[u8], FormKind); 74] = [
+const REFUSED: [(&[u8], FormKind); 75] = [
     (b";", FormKind::UnknownStatement),
     (b"v 1;", FormKind::UnknownStatement),
     (b"12;", FormKind::UnknownStatement),
@@ -431,7 +446,7 @@ const REFUSED: [(&[u8], FormKind); 74] = [
     (b"v .vars;", FormKind::UnknownStatement),
     (b"L .arith/pow 8, a, b;", FormKind::UnknownStatement),
     (b"%nop;", FormKind::UnknownStatement),
-    (b".delay;", FormKind::UnsupportedStatement),
+    (b".delay;", FormKind::LabelMissing),
     (b"v .var/real \"a\", 3 0;", FormKind::UnsupportedStatement),
     (b"v .var/2s \"a\", 3 0;", FormKind::UnsupportedStatement),
     (b"v .net/real \"a\", 3 0, a;", FormKind::UnsupportedStatement),
@@ -485,6 +500,7 @@ const REFUSED: [(&[u8], FormKind); 74] = [
     (b"L .cmp/eq 8, a;", FormKind::BadOperands),
     (b"L .repeat 8, 3, a;", FormKind::BadOperands),
     (b"L .repeat 8, 0, a;", FormKind::BadOperands),
+    (b"d_0 .delay 1 3, 5, 2 v_0;", FormKind::BadOperands),
     (b"E .event sometimes, a;", FormKind::BadOperands),
     (b"E .event edge, C4<>;", FormKind::BadOperands),
     (b"E .event/or E_1,;", FormKind::BadOperands),

@@ -1,11 +1,13 @@
 //! The words of statements that are known and not supported.
 
-ghost use Rattle.std.specs.Prelude.{◌≡◌, ◌||◌, map};
-ghost use Rattle.vvp_forms.specs.Unsupported.{is_one, begins_with_one, words, beginnings, is_unsupported};
+ghost use Rattle.std.specs.Prelude.{◌≡◌, ◌||◌};
+ghost use Rattle.vvp_forms.specs.Unsupported.{words, beginnings, is_unsupported};
+ghost use Rattle.vvp_lex.specs.Words.{is_one, begins_with_one};
+
+use vvp_lex::{begins_with_one, is_one};
 
 /// Such words.
-pub const WORDS: [&[u8]; 11] = [
-    b".delay",
+pub const WORDS: [&[u8]; 10] = [
     b".var/real",
     b".var/str",
     b".var/2s",
@@ -38,32 +40,6 @@ pub const BEGINNINGS: [&[u8]; 16] = [
     b".alias",
 ];
 
-/// Whether the word is one of the texts.
-fn is_one(word: &[u8], mut texts: &[&[u8]]) -> bool
-    ensures { result ≡ is_one word.now (map (λ text. text.now) texts.entry.now) }
-{
-    while let [text, rest @ ..] = texts {
-        if word == *text {
-            return true;
-        }
-        texts = rest;
-    }
-    false
-}
-
-/// Whether the word begins with one of the texts.
-fn begins(word: &[u8], mut texts: &[&[u8]]) -> bool
-    ensures { result ≡ begins_with_one word.now (map (λ text. text.now) texts.entry.now) }
-{
-    while let [text, rest @ ..] = texts {
-        if word.starts_with(text) {
-            return true;
-        }
-        texts = rest;
-    }
-    false
-}
-
 /// Whether the word is listed whole.
 fn is_listed(word: &[u8]) -> bool
     ensures { result ≡ is_one word.now words }
@@ -75,7 +51,7 @@ fn is_listed(word: &[u8]) -> bool
 fn begins_unsupported(word: &[u8]) -> bool
     ensures { result ≡ begins_with_one word.now beginnings }
 {
-    begins(word, &BEGINNINGS)
+    begins_with_one(word, &BEGINNINGS)
 }
 
 /// Whether a word that spells no statement is one that the engine does not have.

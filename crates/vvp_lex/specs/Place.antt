@@ -1,6 +1,6 @@
 -- What stands at the front of the tokens of a statement, or at a place among them, for the crates that read statements. Places
 -- count from 0.
-use Rattle.std.specs.Prelude.{◌≡◌, ℕ, Bool, false, ◌==◌, List, ◌∷◌, Option, None, Some, slice_get, slice_range}
+use Rattle.std.specs.Prelude.{◌≡◌, ℕ, Bool, false, ◌==◌, List, ◌∷◌, Option, None, Some, slice_get, slice_range, if◌then◌else◌}
 use Rattle.vvp_lex.specs.declared.types.Name.{Name}
 use Rattle.vvp_lex.specs.declared.types.Spanned.{Spanned}
 use Rattle.vvp_lex.specs.declared.types.Token.{Token}
@@ -50,6 +50,17 @@ text_in _ span = None
 abbrev pub is_mark : ℕ → Token → Bool
 is_mark byte (token.Punct other) = other == byte
 is_mark byte _ = false
+
+abbrev pub mark_in : ℕ → Option Spanned → Bool
+mark_in byte None = false
+mark_in byte (Some found) = is_mark byte found.token
+
+-- whether this mark stands at a place, and some where it does
+unfoldable pub is_mark_at : List Spanned → ℕ → ℕ → Bool
+is_mark_at tokens place byte = mark_in byte (slice_get tokens place)
+
+unfoldable pub mark_at : List Spanned → ℕ → ℕ → Option (Unit {0})
+mark_at tokens place byte = if is_mark_at tokens place byte then Some tt else None
 
 unfoldable pub number_at : List Spanned → ℕ → Option ℕ
 number_at tokens place = slice_get tokens place >>= λ found. number_in found.token

@@ -12,12 +12,17 @@ mod place;
 mod scan;
 mod text;
 mod types;
+mod words;
 
 pub use label::{is_label, is_word};
 pub use lex::{part_of, statements, tokens};
-pub use place::{byte_at, bytes_after, bytes_of, number_at, span, text_at, tokens_after, word_at};
+pub use place::{
+    byte_at, bytes_after, bytes_of, is_mark_at, mark_at, number_at, span, text_at, text_bytes_at,
+    tokens_after, word_at,
+};
 pub use text::{Bytes, text_bytes};
 pub use types::{FormFault, FormKind, LexFault, LexKind, Name, Spanned, Stmt, Token};
+pub use words::{begins_with_one, is_one};
 
 #[cfg(test)]
 mod tests;

@@ -1,9 +1,13 @@
 //! What stands at a place among the tokens of a statement, for the crates that read statements. Places count from 0.
 
-ghost use Rattle.std.specs.Prelude.{◌≡◌, drop, slice_index};
-ghost use Rattle.vvp_lex.specs.Place.{span_of, bytes_of, number_at, word_at, text_at};
+ghost use Rattle.std.specs.Prelude.{◌≡◌, ◌≤◌, ◌^◌, All, IfOk, drop, length, slice_index};
+ghost use Rattle.std.specs.Option.{option_map};
+ghost use Rattle.vvp_lex.specs.Place.{IsTextOf, span_of, bytes_of, is_mark_at, mark_at, number_at, word_at, text_at};
+ghost use Rattle.vvp_lex.specs.Unescaped.{text_of};
 
+use crate::text::{Bytes, text_bytes};
 use crate::types::{Name, Spanned, Token};
+use std::alloc::{AllocError, Global};
 
 /// Where a token lies.
 pub fn span(token: Spanned) -> Name
@@ -54,6 +58,33 @@ pub fn byte_at(bytes: &[u8], place: usize) -> u8
     }
 }
 
+/// Whether this mark stands at a place.
+#[tactic(auto, unfolding(crate::specs::Place::is_mark_at))]
+pub fn is_mark_at(tokens: &[Spanned], place: usize, byte: u8) -> bool
+    ensures { result ≡ is_mark_at tokens.now place byte }
+{
+    if place < tokens.len() {
+        match tokens[place].token {
+            Token::Punct(found) => found == byte,
+            _ => false,
+        }
+    } else {
+        false
+    }
+}
+
+/// Some where this mark stands at a place.
+#[tactic(auto, unfolding(crate::specs::Place::mark_at))]
+pub fn mark_at(tokens: &[Spanned], place: usize, byte: u8) -> Option<()>
+    ensures { result ≡ mark_at tokens.now place byte }
+{
+    if is_mark_at(tokens, place, byte) {
+        Some(())
+    } else {
+        None
+    }
+}
+
 /// The number at a place.
 #[tactic(auto, unfolding(crate::specs::Place::number_at))]
 pub fn number_at(tokens: &[Spanned], place: usize) -> Option<u64>
@@ -96,5 +127,22 @@ pub fn text_at(tokens: &[Spanned], place: usize) -> Option<Name>
         }
     } else {
         None
+    }
+}
+
+/// The bytes that the text at a place stands for. The only error is want of memory.
+pub fn text_bytes_at(
+    alloc: Global,
+    src: &[u8],
+    tokens: &[Spanned],
+    place: usize,
+) -> Result<Option<Bytes>, AllocError>
+    requires small { length src.now ≤ 2 ^ 26 }
+    requires texts { All (IsTextOf src.now) tokens.now }
+    ensures { IfOk result (λ read. read ≡ option_map (text_of src.now) (text_at tokens.now place)) }
+{
+    match text_at(tokens, place) {
+        Some(name) => Ok(Some(text_bytes(alloc, src, name)?)),
+        None => Ok(None),
     }
 }

@@ -204,11 +204,14 @@ fn tokens_of_a_file(rt: HostRuntime) -> Result<(), Fail> {
             ],
         ),
         (
-            b"a\n# b;\n c;-; =;\n+;",
+            b"a\n# b;\n c;-; =;\n+(2);",
             &[
                 spanned(Token::Word, 0, 1),
                 spanned(Token::Word, 8, 9),
                 spanned(Token::Punct(b'+'), 16, 17),
+                spanned(Token::Punct(b'('), 17, 18),
+                spanned(Token::Number(2), 18, 19),
+                spanned(Token::Punct(b')'), 19, 20),
             ],
         ),
     ];

@@ -1,6 +1,7 @@
 -- An argument of any kind: what is read is spelled so, and what is spelled so is read.
 use Rattle.std.proofs.Common.{◌≡◌, ℕ, ◌+◌, List, [], ◌∷◌, length, take, drop, codes, Bool, true, false, ◌&&◌, ◌==◌, nat_eq, Option, None, Some, is_some, refl, sym, ap, ◌∙◌, subst, if◌then◌else◌, ◌⊎◌, inl, inr, eqb-true}
-use Rattle.std.specs.List.{prefix_len}
+use Rattle.std.specs.List.{All, prefix_len}
+use Rattle.std.proofs.lemmas.List.Elements.{All-head}
 use Rattle.std.specs.Prelude.{slice_index}
 use Rattle.std.specs.Char.{is_ascii_digit}
 use Rattle.std.specs.Str.{bytes_eq}
@@ -13,11 +14,12 @@ use Rattle.vvp_lex.specs.Unescaped.{text_of}
 use Rattle.four_state.specs.declared.bits.Bit.{Bit}
 use Rattle.vvp_ops.specs.declared.args.Arg.{Arg}
 use Rattle.vvp_ops.specs.declared.args.Arg.TheVariants as a
-use Rattle.vvp_lex.specs.Place.{span_of, bytes_of, word_at, Begins, BeginsAt}
-use Rattle.vvp_ops.specs.Tokens.{mark_at, decimal}
+use Rattle.vvp_lex.specs.Place.{span_of, bytes_of, word_at, Begins, BeginsAt, mark_at}
+use Rattle.vvp_ops.specs.Tokens.{decimal}
 use Rattle.vvp_ops.specs.Arguments.{vector_of, mark_len, sized_vector, based_argument, stack_argument, array_argument, part_argument, place_argument, opens_stack, word_argument, argument_as, argument_at, tokens_in}
 use Rattle.vvp_ops.specs.Spelled.{IsTimeWord, IsArgument}
-use Rattle.vvp_ops.proofs.PlaceLemmas.{bind-some, some_inj, get-complete, word-sound}
+use Rattle.vvp_lex.proofs.FrontLemmas.{bind-some, some_inj, get-complete, word-sound, mark-next}
+use Rattle.vvp_lex.proofs.BasedLemmas.{IsBasedOf}
 use Rattle.vvp_ops.proofs.VectorSpells.{vector-sound, vector-complete}
 use Rattle.vvp_ops.proofs.ArgumentSpells.{if-some, same_bytes, bytes_same, stack-sound, stack-complete, array-sound, array-complete, part-sound, part-complete}
 
@@ -39,10 +41,10 @@ based-is text arg h =
     let last = if-some (decimal (take size text) == length (drop (size + mark_len signed) text)) (a.Based value.0 signed) arg value.2 in
     (value.0, signed, last.1)
 
-based-spelled : (file : List ℕ) (first : Spanned) (rest : List Spanned) (arg : Arg Name) → first.token ≡ token.Based → based_argument (bytes_of file (span_of first)) ≡ Some arg → IsFront file (first ∷ rest) arg
-based-spelled file first rest arg based h =
+based-spelled : (file : List ℕ) (first : Spanned) (rest : List Spanned) (arg : Arg Name) → IsBasedOf file first → first.token ≡ token.Based → based_argument (bytes_of file (span_of first)) ≡ Some arg → IsFront file (first ∷ rest) arg
+based-spelled file first rest arg given based h =
     let is = based-is (bytes_of file (span_of first)) arg h in
-    subst (IsFront file (first ∷ rest)) is.2 (span_of first, (first, refl, based, refl), vector-sound (bytes_of file (span_of first)) is.0 is.1 (h ∙ ap Some (sym is.2)))
+    subst (IsFront file (first ∷ rest)) is.2 (span_of first, (first, refl, based, refl), vector-sound (bytes_of file (span_of first)) is.0 is.1 (given based) (h ∙ ap Some (sym is.2)))
 
 not_same : (word text : List ℕ) → bytes_eq word text ≡ false → ¬ (word ≡ text)
 not_same word text h same = false≢true (sym h ∙ bytes_same word text same)
@@ -121,10 +123,10 @@ place-spelled file tokens arg ampersand h =
     array-spelled file tokens word.0 arg ampersand (word-sound 1 tokens word.0 word.1) (if-cases (bytes_eq (bytes_of file word.0) (codes "A")) _ _ _ word.2)
 
 -- an argument that is read is spelled so
-pub argument-sound : (file : List ℕ) (tokens : List Spanned) (arg : Arg Name) → argument_at file tokens ≡ Some arg → IsArgument file tokens (drop (tokens_in arg) tokens) arg
+pub argument-sound : (file : List ℕ) (tokens : List Spanned) (arg : Arg Name) → All (IsBasedOf file) tokens → argument_at file tokens ≡ Some arg → IsArgument file tokens (drop (tokens_in arg) tokens) arg
 unfolding argument_at
-argument-sound file [] arg h = cc
-argument-sound file (first ∷ rest) arg h = by first.token refl h
+argument-sound file [] arg given h = cc
+argument-sound file (first ∷ rest) arg given h = by first.token refl h
   where
     punct : (byte : ℕ) (test : Bool) → nat_eq byte 38 ≡ test → first.token ≡ token.Punct byte → (if test then place_argument file (first ∷ rest) else None) ≡ Some arg → IsFront file (first ∷ rest) arg
     punct byte true is e h =
@@ -134,7 +136,7 @@ argument-sound file (first ∷ rest) arg h = by first.token refl h
     by : (t : Token) → first.token ≡ t → argument_as t file (first ∷ rest) (span_of first) ≡ Some arg → IsFront file (first ∷ rest) arg
     by token.Text e h =
         subst (IsFront file (first ∷ rest)) (some_inj (a.Text (text_of file (span_of first))) arg h) (span_of first, (first, refl, e, refl), refl)
-    by token.Based e h = based-spelled file first rest arg e h
+    by token.Based e h = based-spelled file first rest arg (All-head (IsBasedOf file) first rest given) e h
     by token.Word e h = word-spelled file (first ∷ rest) (span_of first) arg (first, refl, e, refl) h
     by (token.Punct byte) e h = punct byte (nat_eq byte 38) refl e h
     by _ e h = cc
@@ -191,11 +193,6 @@ not_both : (test : Bool) → (test && false) ≡ false
 not_both true = refl
 not_both false = refl
 
-mark-next : (tokens : List Spanned) (byte : ℕ) → mark_at tokens 1 byte ≡ mark_at (drop 1 tokens) 0 byte
-unfolding mark_at
-mark-next [] byte = refl
-mark-next (first ∷ tokens) byte = refl
-
 symbol-read : (file : List ℕ) (tokens : List Spanned) (name : Name) → ¬ IsTimeWord (bytes_of file name) → is_some (mark_at tokens 1 60) ≡ false → word_argument file tokens name ≡ Some (a.Symbol name)
 unfolding word_argument
 symbol-read file tokens name no_time no_less =
@@ -213,7 +210,7 @@ argument-complete file (a.Based value signed) tokens rest is no_less =
     let begins = based-begins file tokens rest is.0 is.1 in (begins.0 ∙ vector-complete (bytes_of file is.0) value signed is.2, begins.1)
 argument-complete file (a.Symbol name) tokens rest is no_less =
     let begins = word-begins file tokens rest name is.0 in
-    let after : is_some (mark_at tokens 1 60) ≡ false = ap is_some (mark-next tokens 60) ∙ ap (λ (l : List Spanned). is_some (mark_at l 0 60)) begins.1 ∙ no_less in
+    let after : is_some (mark_at tokens 1 60) ≡ false = ap is_some (mark-next tokens 0 60) ∙ ap (λ (l : List Spanned). is_some (mark_at l 0 60)) begins.1 ∙ no_less in
     (begins.0 ∙ symbol-read file tokens name is.1 after, begins.1)
 argument-complete file a.Time tokens rest is no_less =
     let begins = word-begins file tokens rest is.0 is.1 in (begins.0 ∙ time-read file tokens is.0 is.2, begins.1)

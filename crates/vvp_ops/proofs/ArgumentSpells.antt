@@ -11,11 +11,11 @@ use Rattle.vvp_lex.specs.declared.types.Spanned.{Spanned}
 use Rattle.vvp_lex.specs.declared.types.Token.TheVariants as token
 use Rattle.vvp_ops.specs.declared.args.Arg.{Arg}
 use Rattle.vvp_ops.specs.declared.args.Arg.TheVariants as a
-use Rattle.vvp_lex.specs.Place.{bytes_of, number_at, word_at, Begins}
-use Rattle.vvp_ops.specs.Tokens.{mark_at, decimal}
+use Rattle.vvp_lex.specs.Place.{bytes_of, number_at, word_at, Begins, mark_at}
+use Rattle.vvp_ops.specs.Tokens.{decimal}
 use Rattle.vvp_ops.specs.Arguments.{stack_type, stack_argument, array_argument, part_argument, place_argument}
 use Rattle.vvp_ops.specs.Spelled.{OneWord, IsStackType, IsStack, IsArrayWord, IsPart}
-use Rattle.vvp_ops.proofs.PlaceLemmas.{bind-some, some_inj, number-sound, number-complete, word-sound, word-complete, mark-sound, mark-complete}
+use Rattle.vvp_lex.proofs.FrontLemmas.{bind-some, some_inj, number-sound, number-complete, word-sound, word-complete, mark-sound, mark-complete}
 
 pub same_bytes : (word text : List ℕ) → bytes_eq word text ≡ true → word ≡ text
 same_bytes word text h = (bytes_eq-Decides word text).0 h

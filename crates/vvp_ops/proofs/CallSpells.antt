@@ -1,5 +1,8 @@
+-- A call and its arguments: what is read is spelled so, and what is spelled so is read.
 use Rattle.std.proofs.Common.{◌≡◌, ℕ, Bool, true, false, List, [], ◌∷◌, drop, Option, None, Some, is_some, refl, sym, ap, ◌∙◌, if◌then◌else◌}
 use Rattle.std.specs.Option.{option_map}
+use Rattle.std.specs.List.{All}
+use Rattle.std.proofs.lemmas.List.Elements.{All-tail, All-drop}
 use Rattle.vvp_lex.specs.declared.types.Name.{Name}
 use Rattle.vvp_lex.specs.declared.types.Spanned.{Spanned}
 use Rattle.vvp_lex.specs.declared.types.Token.TheVariants as token
@@ -7,14 +10,14 @@ use Rattle.vvp_lex.specs.Unescaped.{text_of}
 use Rattle.vvp_ops.specs.declared.args.Arg.{Arg}
 use Rattle.vvp_ops.specs.declared.op.Op.{Op}
 use Rattle.vvp_ops.specs.declared.op.Op.TheVariants as o
-use Rattle.vvp_lex.specs.Place.{◌>>=◌, span_of, bytes_of, is_mark, number_at, text_at, Begins}
-use Rattle.vvp_ops.specs.Tokens.{mark_at}
+use Rattle.vvp_lex.specs.Place.{◌>>=◌, span_of, bytes_of, is_mark, number_at, text_at, Begins, is_mark_at, mark_at}
 use Rattle.vvp_ops.specs.Arguments.{argument_at, tokens_in}
 use Rattle.vvp_ops.specs.Calls.{Arguments, with_argument, arguments_of, pops_of, is_task, is_function, task_of, function_of}
 use Rattle.vvp_ops.specs.Spelled.{AreArguments, ArePops}
 use Rattle.vvp_ops.specs.Spells.{SpellsTask, SpellsFunction}
 use Rattle.vvp_ops.proofs.CallLemmas.{arguments_of-passed, arguments_of-comma, arguments_of-end}
-use Rattle.vvp_ops.proofs.PlaceLemmas.{bind-some, is_mark-is, number-sound, number-complete, text-sound, text-complete, mark-complete}
+use Rattle.vvp_lex.proofs.FrontLemmas.{bind-some, is_mark-is, number-sound, number-complete, text-sound, text-complete, mark-complete}
+use Rattle.vvp_lex.proofs.BasedLemmas.{IsBasedOf}
 use Rattle.vvp_ops.proofs.ArgumentLaw.{argument-sound, argument-complete}
 use Rattle.vvp_ops.proofs.PopsSpells.{task_word-sound, function_word-sound, pops-sound, pops-complete, pops-no_mark}
 
@@ -33,7 +36,7 @@ pops-end : (file : List ℕ) (tokens : List Spanned) (pops : ℕ) → ArePops to
 pops-end file tokens pops s = arguments_of-end file tokens (pops-no_mark 44 tokens pops refl s)
 
 comma-no_less : (tokens rest : List Spanned) → Begins (token.Punct 44) tokens rest → is_some (mark_at tokens 0 60) ≡ false
-unfolding mark_at
+unfolding mark_at is_mark_at
 comma-no_less tokens rest one = rw (one.1, one.2) refl
 
 -- after an argument stands a comma or a brace
@@ -63,20 +66,20 @@ spelled_first file tokens args after None e h = cc
 spelled_first file tokens args after (Some arg) e h =
     let found = spelled_rest file arg tokens args after _ refl h in (arg, found.0, e, found.1, found.2)
 
-arguments-spelled : (file : List ℕ) (args : List (Arg Name)) (tokens : List Spanned) (after : List Spanned) → arguments_of file 0 tokens ≡ Some (args, after) → AreArguments file tokens args after
-arguments-spelled file [] [] after h = same_after _ _ h
-arguments-spelled file [] (first ∷ tokens) after h = by (is_mark 44 first.token) refl h
+arguments-spelled : (file : List ℕ) (args : List (Arg Name)) (tokens : List Spanned) (after : List Spanned) → All (IsBasedOf file) tokens → arguments_of file 0 tokens ≡ Some (args, after) → AreArguments file tokens args after
+arguments-spelled file [] [] after based h = same_after _ _ h
+arguments-spelled file [] (first ∷ tokens) after based h = by (is_mark 44 first.token) refl h
   where
     by : (comma : Bool) → is_mark 44 first.token ≡ comma → (if comma then (argument_at file tokens >>= λ arg. option_map (with_argument arg) (arguments_of file (tokens_in arg) tokens)) else Some ([], first ∷ tokens)) ≡ Some ([], after) → first ∷ tokens ≡ after
     by true e h =
         let found = spelled_first file tokens [] after _ refl h in
         let none : [] ≡ found.0 ∷ found.1 = found.3 in cc
     by false e h = same_after _ _ h
-arguments-spelled file (arg ∷ args) [] after h =
+arguments-spelled file (arg ∷ args) [] after based h =
     let none : [] ≡ arg ∷ args = same_args _ _ h in cc
-arguments-spelled file (arg ∷ args) (first ∷ tokens) after h = by (is_mark 44 first.token) refl h (arguments-spelled file args)
+arguments-spelled file (arg ∷ args) (first ∷ tokens) after based h = by (is_mark 44 first.token) refl h (arguments-spelled file args)
   where
-    by : (comma : Bool) → is_mark 44 first.token ≡ comma → (if comma then (argument_at file tokens >>= λ arg. option_map (with_argument arg) (arguments_of file (tokens_in arg) tokens)) else Some ([], first ∷ tokens)) ≡ Some (arg ∷ args, after) → ((left rest : List Spanned) → arguments_of file 0 left ≡ Some (args, rest) → AreArguments file left args rest) → AreArguments file (first ∷ tokens) (arg ∷ args) after
+    by : (comma : Bool) → is_mark 44 first.token ≡ comma → (if comma then (argument_at file tokens >>= λ arg. option_map (with_argument arg) (arguments_of file (tokens_in arg) tokens)) else Some ([], first ∷ tokens)) ≡ Some (arg ∷ args, after) → ((left rest : List Spanned) → All (IsBasedOf file) left → arguments_of file 0 left ≡ Some (args, rest) → AreArguments file left args rest) → AreArguments file (first ∷ tokens) (arg ∷ args) after
     by true e h others =
         let found = spelled_first file tokens (arg ∷ args) after _ refl h in
         let split : arg ∷ args ≡ found.0 ∷ found.1 = found.3 in
@@ -84,7 +87,8 @@ arguments-spelled file (arg ∷ args) (first ∷ tokens) after h = by (is_mark 4
         let same_rest : found.1 ≡ args = cc in
         let read : argument_at file tokens ≡ Some arg = found.2 ∙ ap Some same in
         let left : arguments_of file 0 (drop (tokens_in arg) tokens) ≡ Some (args, after) = ap (λ (a : Arg Name). arguments_of file 0 (drop (tokens_in a) tokens)) (sym same) ∙ found.4 ∙ ap (λ (rest : List (Arg Name)). Some (rest, after)) same_rest in
-        (tokens, drop (tokens_in arg) tokens, (first, refl, is_mark-is 44 first.token e), argument-sound file tokens arg read, others (drop (tokens_in arg) tokens) after left)
+        let more = All-tail (IsBasedOf file) first tokens based in
+        (tokens, drop (tokens_in arg) tokens, (first, refl, is_mark-is 44 first.token e), argument-sound file tokens arg more read, others (drop (tokens_in arg) tokens) after (All-drop (IsBasedOf file) (tokens_in arg) tokens more) left)
     by false e h others = let none : [] ≡ arg ∷ args = same_args _ _ h in cc
 
 -- a task call that is spelled is read
@@ -100,9 +104,9 @@ task-read file tokens opcode s =
     rw (number.0, line.0, name.0, read, pops) (ap Some (sym s.means))
 
 -- a task call that is read is spelled
-pub task-spelled : (file : List ℕ) (word : Spanned) (rest : List Spanned) (opcode : Op Name) → is_task (bytes_of file (span_of word)) ≡ true → task_of file rest ≡ Some opcode → SpellsTask file (word ∷ rest) opcode
+pub task-spelled : (file : List ℕ) (word : Spanned) (rest : List Spanned) (opcode : Op Name) → All (IsBasedOf file) rest → is_task (bytes_of file (span_of word)) ≡ true → task_of file rest ≡ Some opcode → SpellsTask file (word ∷ rest) opcode
 unfolding task_of
-task-spelled file word rest opcode spelled h =
+task-spelled file word rest opcode based spelled h =
     let number = bind-some (number_at rest 0) _ opcode h in
     let line = bind-some (number_at rest 1) _ opcode number.2 in
     let name = bind-some (text_at rest 2) _ opcode line.2 in
@@ -126,7 +130,7 @@ task-spelled file word rest opcode spelled h =
       has_number = number-sound 0 rest number.0 number.1;
       has_line = number-sound 1 rest line.0 line.1;
       has_name = text-sound 2 rest name.0 name.1;
-      has_arguments = arguments-spelled file read.0.0 (drop 3 rest) read.0.1 read.1;
+      has_arguments = arguments-spelled file read.0.0 (drop 3 rest) read.0.1 (All-drop (IsBasedOf file) 3 rest based) read.1;
       has_pops = pops-sound read.0.1 pops.0 pops.1;
       means = cc;
     }
@@ -145,9 +149,9 @@ function-read file tokens opcode s =
     rw (number.0, line.0, name.0, width.0, read, pops) (ap Some (sym s.means))
 
 -- a function call that is read is spelled
-pub function-spelled : (file : List ℕ) (word : Spanned) (rest : List Spanned) (opcode : Op Name) → is_function (bytes_of file (span_of word)) ≡ true → function_of file rest ≡ Some opcode → SpellsFunction file (word ∷ rest) opcode
+pub function-spelled : (file : List ℕ) (word : Spanned) (rest : List Spanned) (opcode : Op Name) → All (IsBasedOf file) rest → is_function (bytes_of file (span_of word)) ≡ true → function_of file rest ≡ Some opcode → SpellsFunction file (word ∷ rest) opcode
 unfolding function_of
-function-spelled file word rest opcode spelled h =
+function-spelled file word rest opcode based spelled h =
     let number = bind-some (number_at rest 0) _ opcode h in
     let line = bind-some (number_at rest 1) _ opcode number.2 in
     let name = bind-some (text_at rest 2) _ opcode line.2 in
@@ -175,7 +179,7 @@ function-spelled file word rest opcode spelled h =
       has_line = number-sound 1 rest line.0 line.1;
       has_name = text-sound 2 rest name.0 name.1;
       has_width = number-sound 3 rest width.0 width.1;
-      has_arguments = arguments-spelled file read.0.0 (drop 4 rest) read.0.1 read.1;
+      has_arguments = arguments-spelled file read.0.0 (drop 4 rest) read.0.1 (All-drop (IsBasedOf file) 4 rest based) read.1;
       has_pops = pops-sound read.0.1 pops.0 pops.1;
       means = cc;
     }

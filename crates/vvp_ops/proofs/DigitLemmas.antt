@@ -1,21 +1,8 @@
-use Rattle.std.proofs.Common.{◌≡◌, ℕ, suc, ◌+◌, ◌-◌, ◌*◌, ◌<◌, ◌≤◌, Bool, true, false, List, [], ◌∷◌, length, get_or, take, drop, min, cond, refl, sym, ap, ◌∙◌, arith}
-use Rattle.std.specs.List.{prefix_len, AllPass}
+use Rattle.std.proofs.Common.{◌≡◌, ℕ, ◌+◌, ◌-◌, ◌*◌, ◌<◌, ◌≤◌, true, List, [], ◌∷◌, length, get_or, drop, min, sym, ap, ◌∙◌, arith}
 use Rattle.std.specs.Str.Parse.{digits_value, digits_value_after}
 use Rattle.std.specs.Char.{digit_value, is_ascii_digit}
 use Rattle.std.proofs.lemmas.Bool.Decides.{nat_tests}
 use Rattle.std.proofs.lemmas.List.{drop_all, drop_more}
-use Rattle.std.proofs.lemmas.List.Elements.{All-nil, All-cons}
-
--- the digits at the front are digits
-pub front-passes : (p : ℕ → Bool) (xs : List ℕ) → AllPass p (take (prefix_len p xs) xs)
-front-passes p [] = All-nil (λ y. p y ≡ true)
-front-passes p (x ∷ xs) = by (p x) refl (front-passes p xs)
-  where
-    by : (t : Bool) → p x ≡ t → AllPass p (take (prefix_len p xs) xs) → AllPass p (take (cond t (1 + prefix_len p xs) 0) (x ∷ xs))
-    by true e rest =
-        let one : 1 + prefix_len p xs ≡ suc (prefix_len p xs) = omega arith in
-        rw one (All-cons (λ y. p y ≡ true) x (take (prefix_len p xs) xs) e rest)
-    by false e rest = All-nil (λ y. p y ≡ true)
 
 pub digit_value-digit : (b : ℕ) → is_ascii_digit b ≡ true → digit_value b ≡ b - 48
 digit_value-digit b digit = grind (arith, nat_tests)

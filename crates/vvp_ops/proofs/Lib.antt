@@ -3,8 +3,6 @@ pub mod Words
 pub mod SpellsLemmas
 pub mod StatementLemmas
 pub mod DigitLemmas
-pub mod VectorLemmas
-pub mod PlaceLemmas
 pub mod OperandSpells
 pub mod RowSpells
 pub mod ArgumentSpells
@@ -13,3 +11,4 @@ pub mod ArgumentLaw
 pub mod PopsSpells
 pub mod CallLemmas
 pub mod CallSpells
+pub mod VectorLemmas

@@ -14,7 +14,7 @@ use Rattle.vvp_ops.specs.declared.operand.Operand.TheVariants as operand
 use Rattle.vvp_lex.specs.Place.{span_of, is_mark, Begins}
 use Rattle.vvp_ops.specs.Operands.{symbol_as, number_as, operand_as, operand_at}
 use Rattle.vvp_ops.specs.Spelled.{IsSymbol, IsNumber, IsBelow, IsOperand, IsNext}
-use Rattle.vvp_ops.proofs.PlaceLemmas.{some_inj, is_mark-is, is_mark-punct}
+use Rattle.vvp_lex.proofs.FrontLemmas.{some_inj, is_mark-is, is_mark-punct}
 
 -- a token of the kind, at the front
 abbrev HasOperand : Kind → List Spanned → List Spanned → Operand → Type 0

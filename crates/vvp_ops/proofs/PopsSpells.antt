@@ -4,11 +4,10 @@ use Rattle.std.specs.Str.{bytes_eq}
 use Rattle.std.proofs.lemmas.List.{drop_all}
 use Rattle.vvp_lex.specs.declared.types.Spanned.{Spanned}
 use Rattle.vvp_lex.specs.declared.types.Token.TheVariants as token
-use Rattle.vvp_lex.specs.Place.{number_at, Begins}
-use Rattle.vvp_ops.specs.Tokens.{mark_at}
+use Rattle.vvp_lex.specs.Place.{number_at, Begins, is_mark_at, mark_at}
 use Rattle.vvp_ops.specs.Calls.{is_task, is_function, zero_at, pops_of}
 use Rattle.vvp_ops.specs.Spelled.{ArePops, IsTaskWord, IsFunctionWord}
-use Rattle.vvp_ops.proofs.PlaceLemmas.{bind-some, number-sound, number-complete, mark-sound, mark-complete}
+use Rattle.vvp_lex.proofs.FrontLemmas.{bind-some, number-sound, number-complete, mark-sound, mark-complete}
 use Rattle.vvp_ops.proofs.ArgumentSpells.{if-some, same_bytes}
 
 -- the words of calls
@@ -97,5 +96,5 @@ pops-complete tokens pops s =
 
 -- a brace begins no argument
 pub pops-no_mark : (byte : ℕ) (tokens : List Spanned) (pops : ℕ) → nat_eq 123 byte ≡ false → ArePops tokens pops → is_some (mark_at tokens 0 byte) ≡ false
-unfolding mark_at
+unfolding mark_at is_mark_at
 pops-no_mark byte tokens pops other s = rw (s.opens.1, s.opens.2, other) refl

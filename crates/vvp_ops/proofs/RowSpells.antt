@@ -10,7 +10,7 @@ use Rattle.vvp_ops.specs.declared.operand.Operand.{Operand}
 use Rattle.vvp_ops.specs.declared.operand.Operand.TheVariants as operand
 use Rattle.vvp_ops.specs.Operands.{operand_as, operand_at, comma_or_none, tokens_of, operands_at, operands_of}
 use Rattle.vvp_ops.specs.Spelled.{AreOperands}
-use Rattle.vvp_ops.proofs.PlaceLemmas.{some_inj}
+use Rattle.vvp_lex.proofs.FrontLemmas.{some_inj}
 use Rattle.vvp_ops.proofs.OperandSpells.{is_absent, operand-sound, operand_at-some, operand_at-absent, first-absent, first-none, first-complete, next-absent, next-none, next-sound, next-complete}
 
 abbrev Values : Type 0

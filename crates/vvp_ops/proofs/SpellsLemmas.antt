@@ -1,8 +1,9 @@
 use Rattle.std.proofs.Common.{◌≡◌, ℕ, ◌<◌, suc, zero, Bool, true, false, ◌&&◌, ◌||◌, not, List, [], ◌∷◌, length, get_or, Option, None, Some, Ok, refl, sym, ap, ◌∙◌, subst, inl, inr, if◌then◌else◌, arith}
 use Rattle.std.specs.Option.{option_map}
-use Rattle.std.specs.List.{Contains}
+use Rattle.std.specs.List.{Contains, All}
 use Rattle.std.specs.Str.{bytes_eq}
-use Rattle.std.proofs.lemmas.Bool.{false≢true, not-true}
+use Rattle.std.proofs.lemmas.Bool.{false≢true, not-true, and_parts}
+use Rattle.std.proofs.lemmas.List.Elements.{All-tail}
 use Rattle.std.proofs.lemmas.Slice.Eq.{bytes_eq-Decides}
 use Rattle.vvp_lex.specs.declared.types.Name.{Name}
 use Rattle.vvp_lex.specs.declared.types.Spanned.{Spanned}
@@ -13,6 +14,7 @@ use Rattle.vvp_ops.specs.Table.{Row, rows, row_spelled, opcode_of}
 use Rattle.vvp_ops.specs.Operands.{operands_of}
 use Rattle.vvp_ops.specs.Calls.{is_task, is_function, task_of, function_of}
 use Rattle.vvp_ops.specs.Grammar.{known, read_row, read_word, read_tokens}
+use Rattle.vvp_lex.proofs.BasedLemmas.{IsBasedOf}
 use Rattle.vvp_ops.proofs.OperandSpells.{is_absent}
 use Rattle.vvp_ops.proofs.RowSpells.{is_formed, operands-sound, operands-complete}
 use Rattle.vvp_ops.proofs.PopsSpells.{task_word-complete, function_word-complete}
@@ -42,14 +44,6 @@ pub rows-apart : are_apart rows ≡ true
 unfolding rows is_task is_function
 rows-apart = refl
 
-both-left : (a b : Bool) → (a && b) ≡ true → a ≡ true
-both-left true b h = refl
-both-left false b h = h
-
-both-right : (a b : Bool) → (a && b) ≡ true → b ≡ true
-both-right true b h = h
-both-right false b h = absurd (false≢true h)
-
 neither-left : (a b : Bool) → (a || b) ≡ false → a ≡ false
 neither-left true b h = h
 neither-left false b h = refl
@@ -60,9 +54,9 @@ neither-right false b h = h
 
 no_row_spelled-at : (word : List ℕ) (table : List Row) (k : ℕ) (default : Row) → no_row_spelled word table ≡ true → k < length table → bytes_eq word (get_or table k default).0 ≡ false
 no_row_spelled-at word [] k default h lt = absurd (omega arith)
-no_row_spelled-at word (row ∷ more) zero default h lt = not-true _ (both-left _ _ h)
+no_row_spelled-at word (row ∷ more) zero default h lt = not-true _ (and_parts _ _ h).0
 no_row_spelled-at word (row ∷ more) (suc k) default h lt =
-    no_row_spelled-at word more k default (both-right _ _ h) (omega arith)
+    no_row_spelled-at word more k default (and_parts _ _ h).1 (omega arith)
 
 bytes_eq-refl : (word : List ℕ) → bytes_eq word word ≡ true
 bytes_eq-refl word = (bytes_eq-Decides word word).1 refl
@@ -71,7 +65,7 @@ row_spelled-at : (table : List Row) (k : ℕ) (default : Row) → are_distinct t
 row_spelled-at [] k default h lt = absurd (omega arith)
 row_spelled-at (row ∷ more) zero default h lt = rw (bytes_eq-refl row.0) refl
 row_spelled-at (row ∷ more) (suc k) default h lt =
-    rw (no_row_spelled-at row.0 more k default (both-left _ _ h) (omega arith)) (row_spelled-at more k default (both-right _ _ h) (omega arith))
+    rw (no_row_spelled-at row.0 more k default (and_parts _ _ h).0 (omega arith)) (row_spelled-at more k default (and_parts _ _ h).1 (omega arith))
 
 -- in a table with no two rows alike, each row is found by its spelling
 row_spelled-contains : (table : List Row) (row : Row) → are_distinct table ≡ true → Contains table row → row_spelled table row.0 ≡ Some row
@@ -81,8 +75,8 @@ row_spelled-contains table row h at =
 
 apart-at : (table : List Row) (k : ℕ) (default : Row) → are_apart table ≡ true → k < length table → (is_task (get_or table k default).0 || is_function (get_or table k default).0) ≡ false
 apart-at [] k default h lt = absurd (omega arith)
-apart-at (row ∷ more) zero default h lt = not-true _ (both-left _ _ h)
-apart-at (row ∷ more) (suc k) default h lt = apart-at more k default (both-right _ _ h) (omega arith)
+apart-at (row ∷ more) zero default h lt = not-true _ (and_parts _ _ h).0
+apart-at (row ∷ more) (suc k) default h lt = apart-at more k default (and_parts _ _ h).1 (omega arith)
 
 apart-contains : (row : Row) → Contains rows row → (is_task row.0 || is_function row.0) ≡ false
 apart-contains row at =
@@ -100,8 +94,8 @@ rows-formed = refl
 
 formed-at : (table : List Row) (k : ℕ) (default : Row) → are_formed table ≡ true → k < length table → let row = get_or table k default in is_formed (is_absent row.1.0) (is_absent row.1.1) (is_absent row.1.2) ≡ true
 formed-at [] k default h lt = absurd (omega arith)
-formed-at (row ∷ more) zero default h lt = both-left _ _ h
-formed-at (row ∷ more) (suc k) default h lt = formed-at more k default (both-right _ _ h) (omega arith)
+formed-at (row ∷ more) zero default h lt = (and_parts _ _ h).0
+formed-at (row ∷ more) (suc k) default h lt = formed-at more k default (and_parts _ _ h).1 (omega arith)
 
 formed-contains : (row : Row) → Contains rows row → is_formed (is_absent row.1.0) (is_absent row.1.1) (is_absent row.1.2) ≡ true
 formed-contains row at =
@@ -184,18 +178,19 @@ spells_row file word rest opcode None e h = cc
 spells_row file word rest opcode (Some row) e h =
     spells_values file word rest opcode row (operands_of row.1 rest) e refl h
 
-spells_no_task : (file : List ℕ) (word : Spanned) (rest : List Spanned) (opcode : Op Name) (function : Bool) → is_task (bytes_of file (span_of word)) ≡ false → is_function (bytes_of file (span_of word)) ≡ function → read_word file (bytes_of file (span_of word)) rest ≡ Ok opcode → Spells file (word ∷ rest) opcode
-spells_no_task file word rest opcode true no_task e h =
-    inr (inr (function-spelled file word rest opcode e (known-ok _ opcode (sym (read_word-function file _ rest no_task e) ∙ h))))
-spells_no_task file word rest opcode false no_task e h =
+spells_no_task : (file : List ℕ) (word : Spanned) (rest : List Spanned) (opcode : Op Name) (function : Bool) → All (IsBasedOf file) rest → is_task (bytes_of file (span_of word)) ≡ false → is_function (bytes_of file (span_of word)) ≡ function → read_word file (bytes_of file (span_of word)) rest ≡ Ok opcode → Spells file (word ∷ rest) opcode
+spells_no_task file word rest opcode true based no_task e h =
+    inr (inr (function-spelled file word rest opcode based e (known-ok _ opcode (sym (read_word-function file _ rest no_task e) ∙ h))))
+spells_no_task file word rest opcode false based no_task e h =
     inl (spells_row file word rest opcode _ refl (sym (read_word-row file _ rest no_task e) ∙ h))
 
-spells_word : (file : List ℕ) (word : Spanned) (rest : List Spanned) (opcode : Op Name) (task : Bool) → is_task (bytes_of file (span_of word)) ≡ task → read_word file (bytes_of file (span_of word)) rest ≡ Ok opcode → Spells file (word ∷ rest) opcode
-spells_word file word rest opcode true e h =
-    inr (inl (task-spelled file word rest opcode e (known-ok _ opcode (sym (read_word-task file _ rest e) ∙ h))))
-spells_word file word rest opcode false e h = spells_no_task file word rest opcode _ e refl h
+spells_word : (file : List ℕ) (word : Spanned) (rest : List Spanned) (opcode : Op Name) (task : Bool) → All (IsBasedOf file) rest → is_task (bytes_of file (span_of word)) ≡ task → read_word file (bytes_of file (span_of word)) rest ≡ Ok opcode → Spells file (word ∷ rest) opcode
+spells_word file word rest opcode true based e h =
+    inr (inl (task-spelled file word rest opcode based e (known-ok _ opcode (sym (read_word-task file _ rest e) ∙ h))))
+spells_word file word rest opcode false based e h = spells_no_task file word rest opcode _ based e refl h
 
 -- what tokens are read as they spell
-pub spelled-read : (file : List ℕ) (tokens : List Spanned) (opcode : Op Name) → read_tokens file tokens ≡ Ok opcode → Spells file tokens opcode
-spelled-read file [] opcode h = cc
-spelled-read file (word ∷ rest) opcode h = spells_word file word rest opcode _ refl h
+pub spelled-read : (file : List ℕ) (tokens : List Spanned) (opcode : Op Name) → All (IsBasedOf file) tokens → read_tokens file tokens ≡ Ok opcode → Spells file tokens opcode
+spelled-read file [] opcode based h = cc
+spelled-read file (word ∷ rest) opcode based h =
+    spells_word file word rest opcode _ (All-tail (IsBasedOf file) word rest based) refl h

@@ -1,12 +1,10 @@
 use Rattle.std.proofs.Common.{◌≡◌, ℕ, Bool, true, false, List, drop, Result, Ok, Err, refl, sym, ap, ◌∙◌, subst, if◌then◌else◌}
 use Rattle.std.specs.Prelude.{IfOk, IfErr}
 use Rattle.std.specs.List.{Contains, All, slice_get}
-use Rattle.std.proofs.lemmas.List.Elements.{All-drop, All-weaker, All-contains_itself}
+use Rattle.std.proofs.lemmas.List.Elements.{All-drop}
 use Rattle.vvp_lex.specs.declared.types.Name.{Name}
 use Rattle.vvp_lex.specs.declared.types.Spanned.{Spanned}
 use Rattle.vvp_lex.specs.declared.types.Stmt.{Stmt}
-use Rattle.vvp_lex.specs.declared.types.Token.{Token}
-use Rattle.vvp_lex.specs.declared.types.Token.TheVariants as token
 use Rattle.vvp_lex.specs.declared.types.FormFault.{FormFault}
 use Rattle.vvp_lex.specs.declared.types.FormFault.TheVariants as fault
 use Rattle.vvp_lex.specs.Statement.{statements_of, tokens_of}
@@ -15,13 +13,15 @@ use Rattle.vvp_lex.specs.Place.{IsTextOf}
 use Rattle.vvp_ops.specs.Grammar.{read_tokens}
 use Rattle.vvp_ops.specs.Statement.{has_label, after_label, body_of, Answers}
 use Rattle.vvp_ops.specs.Spells.{SpellsOnly, SpellsNone}
+use Rattle.vvp_lex.proofs.BasedLemmas.{IsBasedOf, All-based}
+use Rattle.vvp_lex.proofs.TextAtLemmas.{All-tokens_of}
 use Rattle.vvp_ops.proofs.SpellsLemmas.{read-spelled, spelled-read}
 
 -- what was read is spelled, and nothing else is
-pub only_of_answer : (file : List ℕ) (tokens : List Spanned) (line : ℕ) (result : Result (Op Name) FormFault) → Answers result line (read_tokens file tokens) → IfOk result (SpellsOnly file tokens)
-only_of_answer file tokens line (Ok opcode) h =
-    (spelled-read file tokens opcode h, λ other s. let read = read-spelled file tokens other s in cc)
-only_of_answer file tokens line (Err fault) h = tt
+pub only_of_answer : (file : List ℕ) (tokens : List Spanned) (line : ℕ) (result : Result (Op Name) FormFault) → All (IsBasedOf file) tokens → Answers result line (read_tokens file tokens) → IfOk result (SpellsOnly file tokens)
+only_of_answer file tokens line (Ok opcode) based h =
+    (spelled-read file tokens opcode based h, λ other s. let read = read-spelled file tokens other s in cc)
+only_of_answer file tokens line (Err fault) based h = tt
 
 -- what is refused spells nothing
 pub none_of_answer : (file : List ℕ) (tokens : List Spanned) (line : ℕ) (result : Result (Op Name) FormFault) → Answers result line (read_tokens file tokens) → IfErr result (SpellsNone file tokens)
@@ -29,17 +29,6 @@ none_of_answer file tokens line (Ok opcode) h = tt
 none_of_answer file tokens line (Err (fault.Refused at kind)) h =
     λ opcode s. let read = read-spelled file tokens opcode s in cc
 none_of_answer file tokens line (Err fault.Memory) h = tt
-
--- the texts among a statement's tokens are texts of the file
-pub All-tokens_of : (file : List ℕ) (statement : Stmt) → Contains (statements_of file) statement → All (IsTextOf file) (tokens_of file statement)
-unfolding IsTextOf
-All-tokens_of file statement given =
-    All-weaker (Contains (tokens_of file statement)) (IsTextOf file) is_text (tokens_of file statement) (All-contains_itself (tokens_of file statement))
-  where
-    is_text : (found : Spanned) → Contains (tokens_of file statement) found → IsTextOf file found
-    is_text found at text =
-        let same : found ≡ record { token = token.Text; from = found.from; to = found.to } = ap (λ (t : Token). let spanned : Spanned = record { token = t; from = found.from; to = found.to } in spanned) text in
-        (statement, given, subst (Contains (tokens_of file statement)) same at)
 
 -- what holds of all tokens holds of those after the label
 pub All-after_label : (P : Spanned → Type 0) (file : List ℕ) (column_one : Bool) (tokens : List Spanned) → All P tokens → All P (after_label file column_one tokens)
@@ -60,6 +49,12 @@ All-body file statement found body given found_is body_is =
     let texts = All-after_label (IsTextOf file) file statement.column_one (tokens_of file statement) (All-tokens_of file statement given) in
     let same : body ≡ after_label file statement.column_one (tokens_of file statement) = body_is ∙ ap (after_label file statement.column_one) found_is in
     subst (All (IsTextOf file)) (sym same) texts
+
+-- the bytes of a Based among them are one
+pub All-body_based : (file : List ℕ) (statement : Stmt) → Contains (statements_of file) statement → All (IsBasedOf file) (body_of file statement)
+All-body_based file statement given =
+    let based = All-after_label (IsBasedOf file) file statement.column_one (tokens_of file statement) (All-based file statement given) in
+    subst (All (IsBasedOf file)) (sym (body_of-is file statement)) based
 
 -- the answer on those tokens is the answer on the statement
 pub answer_of-body : (file : List ℕ) (statement : Stmt) (found body : List Spanned) (result : Result (Op Name) FormFault) → found ≡ tokens_of file statement → body ≡ after_label file statement.column_one found → Answers result statement.line (read_tokens file body) → Answers result statement.line (read_tokens file (body_of file statement))

@@ -13,8 +13,8 @@ use Rattle.four_state.specs.declared.bits.Bit.{Bit}
 use Rattle.four_state.specs.declared.bits.Bit.TheVariants as bit
 use Rattle.vvp_ops.specs.declared.args.Arg.{Arg}
 use Rattle.vvp_ops.specs.declared.args.Arg.TheVariants as a
-use Rattle.vvp_lex.specs.Place.{◌>>=◌, span_of, bytes_of, number_at, word_at}
-use Rattle.vvp_ops.specs.Tokens.{mark_at, decimal}
+use Rattle.vvp_lex.specs.Place.{◌>>=◌, span_of, bytes_of, number_at, word_at, mark_at}
+use Rattle.vvp_ops.specs.Tokens.{decimal}
 
 -- the bit that a byte of a vector spells
 abbrev pub bit_of : ℕ → Bit

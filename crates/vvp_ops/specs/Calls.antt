@@ -8,8 +8,7 @@ use Rattle.vvp_lex.specs.Unescaped.{text_of}
 use Rattle.vvp_ops.specs.declared.args.Arg.{Arg}
 use Rattle.vvp_ops.specs.declared.op.Op.{Op}
 use Rattle.vvp_ops.specs.declared.op.Op.TheVariants as o
-use Rattle.vvp_lex.specs.Place.{◌>>=◌, is_mark, number_at, text_at}
-use Rattle.vvp_ops.specs.Tokens.{mark_at}
+use Rattle.vvp_lex.specs.Place.{◌>>=◌, is_mark, number_at, text_at, mark_at}
 use Rattle.vvp_ops.specs.Arguments.{argument_at, tokens_in}
 
 -- the three words of a task call

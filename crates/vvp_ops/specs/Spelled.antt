@@ -131,21 +131,17 @@ pub record IsPart (file : List ℕ) (tokens rest : List Spanned) (item : Name) (
   pub has_width : Begins (token.Number width) t7 t8
   pub more : Begins (token.Punct 62) t8 rest
 
--- What stands between the size and the bits of a vector: a quote and the letter of its base, or a quote, `s` and that
--- letter where it is signed. In a vector's token the quote is ' and the letter is b.
-abbrev pub IsMark : Bool → List ℕ → Type 0
-IsMark false mark =
-    (quote : ℕ) × (base : ℕ) × (mark ≡ quote ∷ base ∷ []) × (is_ascii_digit quote ≡ false) × ¬ (base ≡ 115)
-IsMark true mark = (quote : ℕ) × (base : ℕ) × (mark ≡ quote ∷ 115 ∷ base ∷ []) × (is_ascii_digit quote ≡ false)
+-- what stands between the size and the bits of a vector, and of a signed one
+abbrev pub mark_of : Bool → List ℕ
+mark_of false = codes "'b"
+mark_of true = codes "'sb"
 
 -- A vector: its size by digits, the mark, and 1 to 128 bits, highest first. The size is the number of the bits.
 pub record IsVector (text : List ℕ) (value : List Bit) (signed : Bool) : Type 0 where
   pub size : List ℕ
-  pub mark : List ℕ
   pub bits : List ℕ
-  pub is : text ≡ size ++ (mark ++ bits)
+  pub is : text ≡ size ++ (mark_of signed ++ bits)
   pub digits : AllPass is_ascii_digit size
-  pub has_mark : IsMark signed mark
   pub some : 0 < length bits
   pub few : length bits ≤ 128
   pub counted : decimal size ≡ length bits

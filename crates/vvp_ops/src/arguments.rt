@@ -7,11 +7,12 @@ ghost use Rattle.vvp_lex.specs.Place.{IsTextOf};
 ghost use Rattle.vvp_ops.specs.Arguments.{bit_of, vector_of, mark_len, sized_vector, based_argument, stack_type, stack_argument, array_argument, part_argument, place_argument, opens_stack, word_argument, argument_at};
 
 use crate::args::Arg;
-use crate::tokens::{are_digits, decimal, mark_at};
+use crate::tokens::{are_digits, decimal};
 use four_state::{Bit, Vec4};
 use std::alloc::{AllocError, Global};
 use vvp_lex::{
-    Name, Spanned, Token, byte_at, bytes_after, bytes_of, number_at, span, text_bytes, word_at,
+    Name, Spanned, Token, byte_at, bytes_after, bytes_of, mark_at, number_at, span, text_bytes,
+    word_at,
 };
 
 /// The widest vector, in bits.

@@ -1,18 +1,15 @@
 //! Reading a call of a task or a function: the tokens after its word.
 
-ghost use Rattle.std.specs.Prelude.{◌≡◌, ◌≤◌, ◌^◌, All, IfOk, IfSome, length};
+ghost use Rattle.std.specs.Prelude.{◌≡◌, ◌≤◌, ◌^◌, All, IfOk, length};
 ghost use Rattle.std.specs.Option.{option_map};
 ghost use Rattle.vvp_lex.specs.Place.{IsTextOf};
-ghost use Rattle.vvp_lex.specs.Unescaped.{text_of};
-ghost use Rattle.vvp_lex.specs.Place.{text_at};
 ghost use Rattle.vvp_ops.specs.Calls.{is_task, is_function, arguments_of, zero_at, pops_of, task_of, function_of};
 
 use crate::args::Args;
 use crate::arguments::argument_at;
 use crate::op::Op;
-use crate::tokens::mark_at;
 use std::alloc::{AllocError, Global};
-use vvp_lex::{Bytes, Name, Spanned, number_at, text_at, text_bytes, tokens_after};
+use vvp_lex::{Name, Spanned, mark_at, number_at, text_bytes_at, tokens_after};
 
 /// Whether the word calls a task.
 #[tactic(auto, unfolding(crate::specs::Calls::is_task))]
@@ -30,23 +27,6 @@ pub fn is_function(word: &[u8]) -> bool
     ensures { result ≡ is_function word.now }
 {
     word == b"%vpi_func".as_slice()
-}
-
-/// The bytes that the text at a place stands for.
-fn text_bytes_at(
-    alloc: Global,
-    src: &[u8],
-    tokens: &[Spanned],
-    place: usize,
-) -> Result<Option<Bytes>, AllocError>
-    requires small { length src.now ≤ 2 ^ 26 }
-    requires texts { All (IsTextOf src.now) tokens.now }
-    ensures { IfOk result (λ read. read ≡ option_map (text_of src.now) (text_at tokens.now place)) }
-{
-    match text_at(tokens, place) {
-        Some(name) => Ok(Some(text_bytes(alloc, src, name)?)),
-        None => Ok(None),
-    }
 }
 
 /// The arguments at the front, each after its comma, and the tokens after them. The only error is want of memory.

@@ -97,6 +97,9 @@ const SPELLED: &[u8] = b"%nop;
 %join;
 %disable c;
 %end;
+%force/vec4 s;
+%release/net s, 18446744073709551615, 8;
+%release/reg s, 3, 8;
 %vpi_call 1 2 \"$display\", \"%d\", q {0 0 0};
 %vpi_call/w 1 2 \"$display\" {3 0 0};
 %vpi_call/i 1 2 \"$finish\", 1'b1 {0 0 0};
@@ -200,6 +203,9 @@ const BAD_OPERANDS: &[u8] = b"%nop 1;
 %join 1;
 %disable 5;
 %end 1;
+%force/vec4 5;
+%release/net s, 3;
+%release/reg s, w, 8;
 %vpi_call 1 2 \"$display\" {1 1 0};
 %vpi_call/w 1 2 \"$display\" {3 0 1};
 %vpi_call/i 1 2 $finish {0 0 0};
@@ -236,8 +242,8 @@ const UNSUPPORTED: &[u8] = b"%callf/void 1 {;
 %free 1 {;
 %cassign/vec4 1 {;
 %deassign/vec4 1 {;
-%force/vec4 1 {;
-%release/net 1 {;
+%force/link 1 {;
+%release/wire 1 {;
 %evctl 1 {;
 %event/nb 1 {;
 %join/detach 1 {;
@@ -311,7 +317,7 @@ fn all_are(rt: &HostRuntime, src: &[u8], want: Option<FormKind>) -> Result<usize
 
 #[test]
 fn reads_each_spelling(rt: HostRuntime) -> Result<(), Fail> {
-    assert_eq!(rt; all_are(&rt, SPELLED, None)?, 100);
+    assert_eq!(rt; all_are(&rt, SPELLED, None)?, 103);
     Ok(())
 }
 
@@ -319,7 +325,7 @@ fn reads_each_spelling(rt: HostRuntime) -> Result<(), Fail> {
 fn refuses_other_operands(rt: HostRuntime) -> Result<(), Fail> {
     assert_eq!(rt;
         all_are(&rt, BAD_OPERANDS, Some(FormKind::BadOperands))?,
-        108
+        111
     );
     Ok(())
 }

@@ -1,26 +1,9 @@
-//! What stands at a place among the tokens of a statement, and what digits write. Places count from 0.
+//! What digits write.
 
 ghost use Rattle.std.specs.Prelude.{◌≡◌, ◌+◌, ◌-◌, ◌*◌, ◌^◌, IsTrue, min};
 ghost use Rattle.std.specs.Char.{is_ascii_digit, digit_value};
 ghost use Rattle.std.specs.List.{list_all, AllPass};
-ghost use Rattle.vvp_ops.specs.Tokens.{mark_at, decimal};
-
-use vvp_lex::{Spanned, Token};
-
-/// Some where this mark stands at a place.
-#[tactic(auto, unfolding(crate::specs::Tokens::mark_at))]
-pub fn mark_at(tokens: &[Spanned], place: usize, byte: u8) -> Option<()>
-    ensures { result ≡ mark_at tokens.now place byte }
-{
-    if place < tokens.len() {
-        match tokens[place].token {
-            Token::Punct(found) if found == byte => Some(()),
-            _ => None,
-        }
-    } else {
-        None
-    }
-}
+ghost use Rattle.vvp_ops.specs.Tokens.{decimal};
 
 /// Whether all bytes are digits.
 pub fn are_digits(bytes: &[u8]) -> bool

@@ -1,7 +1,10 @@
 //! The words of opcodes that are known and not supported.
 
 ghost use Rattle.std.specs.Prelude.{◌≡◌, ◌||◌, map};
-ghost use Rattle.vvp_ops.specs.Unsupported.{begins_with_one, contains_text, contains_one, beginnings, parts, is_unsupported};
+ghost use Rattle.vvp_lex.specs.Words.{begins_with_one};
+ghost use Rattle.vvp_ops.specs.Unsupported.{contains_text, contains_one, beginnings, parts, is_unsupported};
+
+use vvp_lex::begins_with_one;
 
 /// How such words begin.
 pub const BEGINNINGS: [&[u8]; 27] = [
@@ -37,19 +40,6 @@ pub const BEGINNINGS: [&[u8]; 27] = [
 /// What such words contain.
 pub const PARTS: [&[u8]; 6] = [b"/str", b"/real", b"/wr", b"/obj", b"/dar", b"/queue"];
 
-/// Whether the word begins with one of the texts.
-fn begins(word: &[u8], mut texts: &[&[u8]]) -> bool
-    ensures { result ≡ begins_with_one word.now (map (λ text. text.now) texts.entry.now) }
-{
-    while let [text, rest @ ..] = texts {
-        if word.starts_with(text) {
-            return true;
-        }
-        texts = rest;
-    }
-    false
-}
-
 /// Whether the word contains the text.
 fn contains(mut word: &[u8], text: &[u8]) -> bool
     ensures { result ≡ contains_text word.entry.now text.now }
@@ -80,7 +70,7 @@ fn contains_any(word: &[u8], mut texts: &[&[u8]]) -> bool
 fn begins_unsupported(word: &[u8]) -> bool
     ensures { result ≡ begins_with_one word.now beginnings }
 {
-    begins(word, &BEGINNINGS)
+    begins_with_one(word, &BEGINNINGS)
 }
 
 /// Whether the word contains what only one that is not supported does.

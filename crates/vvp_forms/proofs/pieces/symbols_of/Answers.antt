@@ -3,8 +3,7 @@ use Rattle.std.specs.Option.{option_map}
 use Rattle.std.proofs.lemmas.Bool.Decides.{nat_tests}
 use Rattle.vvp_lex.specs.declared.types.Name.{Name}
 use Rattle.vvp_lex.specs.declared.types.Spanned.{Spanned}
-use Rattle.vvp_lex.specs.Place.{word_at}
-use Rattle.vvp_forms.specs.Tokens.{is_mark_at}
+use Rattle.vvp_lex.specs.Place.{word_at, is_mark_at}
 use Rattle.vvp_forms.specs.Operands.{symbols_after}
 use Rattle.vvp_forms.proofs.PieceLemmas.{after_names, symbols-no_comma, symbols-no_word, symbols-more, after_names-push}
 use Rattle.vvp_forms.proofs.pieces.symbols_of.Goals as goal

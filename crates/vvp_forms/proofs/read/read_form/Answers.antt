@@ -3,7 +3,7 @@ use Rattle.std.specs.List.{All}
 use Rattle.vvp_lex.specs.Statement.{tokens_of}
 use Rattle.vvp_lex.specs.Place.{IsTextOf}
 use Rattle.vvp_forms.proofs.SpellsLemmas.{only_of_read, none_of_read}
-use Rattle.vvp_forms.proofs.TextLemmas.{All-tokens_of}
+use Rattle.vvp_lex.proofs.TextAtLemmas.{All-tokens_of}
 use Rattle.vvp_forms.proofs.read.read_form.Goals as goal
 
 pub form_spelled-requires-clause-texts : goal.form_spelled-requires-clause-texts

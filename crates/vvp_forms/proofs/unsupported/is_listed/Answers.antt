@@ -1,5 +1,5 @@
 use Rattle.std.proofs.Common.{ap, ◌∙◌}
-use Rattle.vvp_forms.specs.Unsupported.{is_one}
+use Rattle.vvp_lex.specs.Words.{is_one}
 use Rattle.vvp_forms.proofs.Words.{words-seen}
 use Rattle.vvp_forms.proofs.unsupported.is_listed.Goals as goal
 

@@ -2,11 +2,12 @@ use Rattle.std.proofs.Common.{◌≡◌, ◌<◌, true, false, List, [], ◌∷�
 use Rattle.std.specs.Option.{option_map}
 use Rattle.vvp_lex.specs.declared.types.Name.{Name}
 use Rattle.vvp_lex.specs.declared.types.Spanned.{Spanned}
+use Rattle.vvp_lex.specs.Place.{mark_at}
 use Rattle.vvp_ops.specs.declared.args.Arg.{Arg}
-use Rattle.vvp_ops.specs.Tokens.{mark_at}
 use Rattle.vvp_ops.specs.Arguments.{argument_at, tokens_in}
 use Rattle.vvp_ops.specs.Calls.{arguments_of}
-use Rattle.vvp_ops.proofs.CallLemmas.{texts-after, after_arguments, arguments_of-comma, arguments_of-none, arguments_of-end, after_arguments-push, after_arguments-end, arguments-shorter}
+use Rattle.vvp_lex.proofs.TextAtLemmas.{texts-after}
+use Rattle.vvp_ops.proofs.CallLemmas.{after_arguments, arguments_of-comma, arguments_of-none, arguments_of-end, after_arguments-push, after_arguments-end, arguments-shorter}
 use Rattle.vvp_ops.proofs.calls.arguments.Goals as goal
 
 pub argument_at-requires-clause-texts : goal.argument_at-requires-clause-texts

@@ -1,4 +1,4 @@
-use Rattle.vvp_ops.proofs.CallLemmas.{texts-after}
+use Rattle.vvp_lex.proofs.TextAtLemmas.{texts-after}
 use Rattle.vvp_ops.proofs.calls.function_of.Goals as goal
 
 pub arguments-requires-clause-texts : goal.arguments-requires-clause-texts

@@ -1,4 +1,4 @@
-use Rattle.vvp_ops.proofs.CallLemmas.{texts-after}
+use Rattle.vvp_lex.proofs.TextAtLemmas.{texts-after}
 use Rattle.vvp_ops.proofs.read.read_tokens.Goals as goal
 
 pub read_word-requires-clause-texts : goal.read_word-requires-clause-texts

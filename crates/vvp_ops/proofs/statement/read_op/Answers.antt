@@ -1,6 +1,6 @@
 use Rattle.std.proofs.Common.{◌∙◌}
 use Rattle.vvp_ops.specs.Statement.{body_of}
-use Rattle.vvp_ops.proofs.StatementLemmas.{All-body, answer_of-body, only_of_answer, none_of_answer}
+use Rattle.vvp_ops.proofs.StatementLemmas.{All-body, All-body_based, answer_of-body, only_of_answer, none_of_answer}
 use Rattle.vvp_ops.proofs.statement.read_op.Goals as goal
 
 pub read_tokens-requires-clause-texts : goal.read_tokens-requires-clause-texts
@@ -13,7 +13,7 @@ returns-clause-answer c =
 
 pub returns-clause-spells : goal.returns-clause-spells
 returns-clause-spells c =
-    only_of_answer c.args.src.now (body_of c.args.src.now c.args.stmt.now) c.args.stmt.now.line c.read_tokens.result (returns-clause-answer c)
+    only_of_answer c.args.src.now (body_of c.args.src.now c.args.stmt.now) c.args.stmt.now.line c.read_tokens.result (All-body_based c.args.src.now c.args.stmt.now c.requires.given) (returns-clause-answer c)
 
 pub returns-clause-refuses : goal.returns-clause-refuses
 returns-clause-refuses c =

@@ -1,6 +1,6 @@
 use Rattle.std.proofs.Common.{◌≡◌, length, map}
-use Rattle.vvp_forms.specs.Unsupported.{is_one}
-use Rattle.vvp_forms.proofs.unsupported.is_one.Given as goal
+use Rattle.vvp_lex.specs.Words.{is_one}
+use Rattle.vvp_lex.proofs.words.is_one.Given as goal
 
 abbrev pub invariant-loop-texts : goal.invariant-loop-texts
 invariant-loop-texts l = is_one l.word (map (λ text. text.now) l.texts) ≡ is_one l.word (map (λ text. text.now) l.initial.texts)

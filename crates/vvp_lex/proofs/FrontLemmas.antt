@@ -1,21 +1,26 @@
--- What stands at a place, and what stands at the front of the tokens from there on.
+-- What stands at a place, and what stands at the front of the tokens from there on: what is read is spelled so, and what is spelled
+-- so is read.
 use Rattle.std.proofs.Common.{◌≡◌, ℕ, zero, suc, List, [], ◌∷◌, drop, Bool, true, false, Option, None, Some, refl, sym, ap, ◌∙◌, if◌then◌else◌, eqb-true}
 use Rattle.std.specs.List.{slice_get}
-use Rattle.std.proofs.lemmas.Bool.{eq-eqb}
+use Rattle.std.proofs.lemmas.Bool.{false≢true, eq-eqb}
 use Rattle.vvp_lex.specs.declared.types.Name.{Name}
 use Rattle.vvp_lex.specs.declared.types.Spanned.{Spanned}
 use Rattle.vvp_lex.specs.declared.types.Token.{Token}
 use Rattle.vvp_lex.specs.declared.types.Token.TheVariants as token
-use Rattle.vvp_lex.specs.Place.{◌>>=◌, span_of, number_in, word_in, text_in, is_mark, number_at, word_at, text_at, Begins, BeginsAt}
-use Rattle.vvp_ops.specs.Tokens.{mark_in, mark_at}
+use Rattle.vvp_lex.specs.Place.{◌>>=◌, span_of, number_in, word_in, text_in, is_mark, mark_in, is_mark_at, mark_at, number_at, word_at, text_at, Begins, BeginsAt}
 
--- a step that gave some
+pub some_inj : {A : Type 0} (x y : A) → Some x ≡ Some y → x ≡ y
+some_inj x y e = cc
+
+-- a step that gave some has been given some
 pub bind-some : {A B : Type 0} (read : Option A) (next : A → Option B) (value : B) → (read >>= next) ≡ Some value → (x : A) × (read ≡ Some x) × (next x ≡ Some value)
 bind-some None next value h = cc
 bind-some (Some x) next value h = (x, refl, h)
 
-pub some_inj : {A : Type 0} (x y : A) → Some x ≡ Some y → x ≡ y
-some_inj x y e = cc
+-- a test that gave some has passed
+pub test-some : {A : Type 0} (test : Bool) (read : Option A) (value : A) → (if test then read else None) ≡ Some value → (test ≡ true) × (read ≡ Some value)
+test-some true read value h = (refl, h)
+test-some false read value h = cc
 
 -- from a place on, the token there stands at the front
 pub get-sound : (place : ℕ) (tokens : List Spanned) (first : Spanned) → slice_get tokens place ≡ Some first → drop place tokens ≡ first ∷ drop (suc place) tokens
@@ -50,15 +55,9 @@ is_mark-is byte _ h = cc
 pub is_mark-punct : (byte : ℕ) → is_mark byte (token.Punct byte) ≡ true
 is_mark-punct byte = eq-eqb byte byte refl
 
-abbrev marked : Bool → Option (Unit {0})
-marked test = if test then Some tt else None
-
-mark_in-is : (byte : ℕ) (t : Token) → mark_in byte t ≡ Some tt → t ≡ token.Punct byte
-mark_in-is byte t h = by (is_mark byte t) refl h
-  where
-    by : (found : Bool) → is_mark byte t ≡ found → marked found ≡ Some tt → t ≡ token.Punct byte
-    by true e h = is_mark-is byte t e
-    by false e h = cc
+mark_in-is : (byte : ℕ) (found : Option Spanned) → mark_in byte found ≡ true → (first : Spanned) × (found ≡ Some first) × (first.token ≡ token.Punct byte)
+mark_in-is byte None h = absurd (false≢true h)
+mark_in-is byte (Some first) h = (first, refl, is_mark-is byte first.token h)
 
 -- a number, a word, a text or a mark that is read at a place is spelled there
 pub number-sound : (place : ℕ) (tokens : List Spanned) (value : ℕ) → number_at tokens place ≡ Some value → Begins (token.Number value) (drop place tokens) (drop (suc place) tokens)
@@ -81,11 +80,17 @@ text-sound place tokens name h =
     let is = text_in-is found.0.token (span_of found.0) name found.2 in
     (found.0, get-sound place tokens found.0 found.1, is.0, is.1)
 
+pub is_mark_at-sound : (place : ℕ) (tokens : List Spanned) (byte : ℕ) → is_mark_at tokens place byte ≡ true → Begins (token.Punct byte) (drop place tokens) (drop (suc place) tokens)
+unfolding is_mark_at
+is_mark_at-sound place tokens byte h =
+    let found = mark_in-is byte (slice_get tokens place) h in
+    (found.0, get-sound place tokens found.0 found.1, found.2)
+
 pub mark-sound : (place : ℕ) (tokens : List Spanned) (byte : ℕ) → mark_at tokens place byte ≡ Some tt → Begins (token.Punct byte) (drop place tokens) (drop (suc place) tokens)
 unfolding mark_at
 mark-sound place tokens byte h =
-    let found = bind-some (slice_get tokens place) _ tt h in
-    (found.0, get-sound place tokens found.0 found.1, mark_in-is byte found.0.token found.2)
+    let read = test-some (is_mark_at tokens place byte) (Some tt) tt h in
+    is_mark_at-sound place tokens byte read.0
 
 -- what is spelled there is read at the place
 pub number-complete : (place : ℕ) (tokens here rest : List Spanned) (value : ℕ) → drop place tokens ≡ here → Begins (token.Number value) here rest → (number_at tokens place ≡ Some value) × (drop (suc place) tokens ≡ rest)
@@ -105,8 +110,23 @@ text-complete place tokens here rest name from one =
     let found = get-complete place tokens here rest one.0 from one.1 in
     (rw (found.0, one.2) (ap Some (sym one.3)), found.1)
 
+pub is_mark_at-complete : (place : ℕ) (tokens here rest : List Spanned) (byte : ℕ) → drop place tokens ≡ here → Begins (token.Punct byte) here rest → (is_mark_at tokens place byte ≡ true) × (drop (suc place) tokens ≡ rest)
+unfolding is_mark_at
+is_mark_at-complete place tokens here rest byte from one =
+    let found = get-complete place tokens here rest one.0 from one.1 in
+    (rw (found.0, one.2, is_mark-punct byte) refl, found.1)
+
 pub mark-complete : (place : ℕ) (tokens here rest : List Spanned) (byte : ℕ) → drop place tokens ≡ here → Begins (token.Punct byte) here rest → (mark_at tokens place byte ≡ Some tt) × (drop (suc place) tokens ≡ rest)
 unfolding mark_at
 mark-complete place tokens here rest byte from one =
-    let found = get-complete place tokens here rest one.0 from one.1 in
-    (rw (found.0, one.2, is_mark-punct byte) refl, found.1)
+    let found = is_mark_at-complete place tokens here rest byte from one in (rw found.0 refl, found.1)
+
+-- the place after the first token is the front of the others
+pub is_mark_at-next : (tokens : List Spanned) (place byte : ℕ) → is_mark_at tokens (suc place) byte ≡ is_mark_at (drop 1 tokens) place byte
+unfolding is_mark_at
+is_mark_at-next [] place byte = refl
+is_mark_at-next (first ∷ tokens) place byte = refl
+
+pub mark-next : (tokens : List Spanned) (place byte : ℕ) → mark_at tokens (suc place) byte ≡ mark_at (drop 1 tokens) place byte
+unfolding mark_at
+mark-next tokens place byte = rw (is_mark_at-next tokens place byte) refl

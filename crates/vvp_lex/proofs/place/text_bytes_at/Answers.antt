@@ -1,6 +1,6 @@
 use Rattle.std.proofs.Common.{sym}
-use Rattle.vvp_forms.proofs.TextLemmas.{text_at-IsText}
-use Rattle.vvp_forms.proofs.pieces.text_bytes_at.Goals as goal
+use Rattle.vvp_lex.proofs.TextAtLemmas.{text_at-IsText}
+use Rattle.vvp_lex.proofs.place.text_bytes_at.Goals as goal
 
 pub text_bytes-requires-clause-text : goal.text_bytes-requires-clause-text
 text_bytes-requires-clause-text c =

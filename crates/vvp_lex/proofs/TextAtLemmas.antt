@@ -1,3 +1,4 @@
+-- A text at a place, and the texts among the tokens of a statement, are texts of the file.
 use Rattle.std.proofs.Common.{◌≡◌, ℕ, zero, suc, List, [], ◌∷◌, drop, Option, None, Some, refl, sym, ap, subst}
 use Rattle.std.specs.Prelude.{IfSome}
 use Rattle.std.specs.List.{Contains, All, slice_get}
