@@ -1,0 +1,168 @@
+//! Gates evaluated on levels, and on strong bits.
+
+ghost use Rattle.std.specs.Prelude.{◌≡◌, ℕ, ◌≤◌, length, map, sum, flat_map, IsTrue, IsSome, IfSome};
+ghost use Rattle.four_state.specs.Bit.{resolve_bit};
+ghost use Rattle.strengths.specs.Level.{driven};
+ghost use Rattle.strengths.specs.Resolver.{joined, resolved_by};
+ghost use Rattle.gate_rules.specs.Evaluable.{IsEvaluable, HaveWidth};
+ghost use Rattle.gate_rules.specs.Output.{output};
+ghost use Rattle.gate_rules.specs.Ports.{there, widths, width_at, driven_ports};
+ghost use Rattle.gate_rules.specs.Strong.{keeps_strong, resolves_strongly};
+ghost use Rattle.gate_rules.specs.Tables.{with_next};
+
+use crate::fold::Table;
+use crate::look::looked;
+use crate::pass::{
+    bits_above, bits_extended, bits_from, bits_put, bits_repeated, inner_bits, levels_above,
+    levels_extended, levels_from, levels_put, levels_repeated, part_levels,
+};
+use crate::ports::{bits_at, driven_ports, levels_at, seen_ports};
+use crate::strong::strength_of;
+use four_state::{Bit, ResKind, Vec4};
+use strengths::{Vec8, drive, resolve_kind, seen};
+use vvp_forms::Gate;
+
+/// What a gate puts out: `width` places, from its strengths `drives` of 0 and of 1, each 0 to 7, and the levels at its four
+/// ports (`docs/PROFILE.md`, "Gates").
+///
+/// The kinds that pass places pass their strengths too. The others look at what is seen at their ports, and drive what
+/// they make of it.
+pub fn eval_gate(gate: &Gate, width: u8, drives: (u8, u8), ports: &[Option<Vec8>]) -> Vec8
+    requires { IsEvaluable gate.now width drives.0 drives.1 (widths ports.now) }
+    ensures value { result ≡ output gate.now width drives.0 drives.1 ports.now }
+    ensures width { length result ≡ width }
+{
+    match gate {
+        Gate::Buft => levels_at(ports, 0),
+        Gate::Resolver { kind } => resolve_kind(*kind, ports),
+        Gate::Part { base } => part_levels(levels_at(ports, 0), *base, width),
+        Gate::PartInto { base, .. } => levels_put(levels_at(ports, 0), *base, width),
+        Gate::PartFrom { signed } => {
+            levels_from(
+                levels_at(ports, 0),
+                *signed,
+                seen(levels_at(ports, 1)),
+                width,
+            )
+        }
+        Gate::Concat { .. } => concat_levels(ports),
+        Gate::Repeat { count } => levels_repeated(levels_at(ports, 0), *count),
+        Gate::Extend => levels_extended(levels_at(ports, 0), width),
+        _ => drive(
+            looked(gate, width, &seen_ports(ports)),
+            strength_of(gate, drives.0),
+            strength_of(gate, drives.1),
+        ),
+    }
+}
+
+/// What a gate puts out where its ports have strong bits and it keeps them strong, as bits: `eval_gate` of the bits, driven
+/// with the strengths 6 and 6, is this, driven so (`is_strong` says for which gates and strengths).
+pub fn eval_strong(gate: &Gate, width: u8, ports: &[Option<Vec4>]) -> Vec4
+    requires evaluable { IsEvaluable gate.now width 6 6 (widths ports.now) }
+    requires strong { IsTrue (keeps_strong gate.now 6 6) }
+    ensures value { (s0 s1 : ℕ) → IsTrue (keeps_strong gate.now s0 s1) → output gate.now width s0 s1 (driven_ports 6 6 ports.now) ≡ map (driven 6 6) result }
+    ensures width { length result ≡ width }
+{
+    match gate {
+        Gate::And => Table::And.fold(width, ports),
+        Gate::Or => Table::Or.fold(width, ports),
+        Gate::Xor => Table::Xor.fold(width, ports),
+        Gate::Nand => Table::And.fold(width, ports).not(),
+        Gate::Nor => Table::Or.fold(width, ports).not(),
+        Gate::Xnor => Table::Xor.fold(width, ports).not(),
+        Gate::Not => bits_at(ports, 0).not(),
+        _ => eval_other(gate, width, ports),
+    }
+}
+
+/// The same for each gate. It stands out of line, so that the logic gates pay nothing for it.
+#[inline(never)]
+fn eval_other(gate: &Gate, width: u8, ports: &[Option<Vec4>]) -> Vec4
+    requires evaluable { IsEvaluable gate.now width 6 6 (widths ports.now) }
+    requires strong { IsTrue (keeps_strong gate.now 6 6) }
+    ensures value { (s0 s1 : ℕ) → IsTrue (keeps_strong gate.now s0 s1) → output gate.now width s0 s1 (driven_ports 6 6 ports.now) ≡ map (driven 6 6) result }
+    ensures width { length result ≡ width }
+{
+    match gate {
+        Gate::Buft => bits_at(ports, 0),
+        Gate::Resolver { kind } => resolve_bits(*kind, width, ports),
+        Gate::Part { base } => inner_bits(bits_at(ports, 0), *base, width),
+        Gate::PartInto { base, .. } => bits_put(bits_at(ports, 0), *base, width),
+        Gate::PartFrom { signed } => {
+            bits_from(bits_at(ports, 0), *signed, bits_at(ports, 1), width)
+        }
+        Gate::Concat { .. } => concat_bits(ports),
+        Gate::Repeat { count } => bits_repeated(bits_at(ports, 0), *count),
+        Gate::Extend => bits_extended(bits_at(ports, 0), width),
+        _ => looked(gate, width, ports),
+    }
+}
+
+/// The ports in one vector, the first one lowest.
+fn concat_levels(ports: &[Option<Vec8>]) -> Vec8
+    requires four { length ports.now ≡ 4 }
+    requires first { IsSome (width_at (widths ports.now) 0) }
+    requires most { sum (there (widths ports.now)) ≤ 128 }
+    ensures { result ≡ flat_map (λ vector. vector) (there ports.now) }
+{
+    let low = levels_at(ports, 0);
+    let second = levels_above(low, &ports[1]);
+    let third = levels_above(second, &ports[2]);
+    levels_above(third, &ports[3])
+}
+
+/// The ports in one vector, the first one lowest.
+fn concat_bits(ports: &[Option<Vec4>]) -> Vec4
+    requires four { length ports.now ≡ 4 }
+    requires first { IsSome (width_at (widths ports.now) 0) }
+    requires most { sum (there (widths ports.now)) ≤ 128 }
+    ensures { result ≡ flat_map (λ vector. vector) (there ports.now) }
+{
+    let low = bits_at(ports, 0);
+    let second = bits_above(low, &ports[1]);
+    let third = bits_above(second, &ports[2]);
+    bits_above(third, &ports[3])
+}
+
+/// What a net makes of strong drivers. `Tri0` and `Tri1` pull it to levels that aren't strong.
+fn resolve_bits(kind: ResKind, width: u8, ports: &[Option<Vec4>]) -> Vec4
+    requires strong { IsTrue (resolves_strongly kind) }
+    requires least { 1 ≤ width }
+    requires most { width ≤ 128 }
+    requires four { length ports.now ≡ 4 }
+    requires wide { HaveWidth (widths ports.now) width }
+    ensures { resolved_by kind (there (driven_ports 6 6 ports.now)) ≡ map (driven 6 6) result }
+{
+    match kind {
+        ResKind::Tri => all_resolved(width, ports),
+        _ => seen(resolve_kind(kind, &driven_ports(ports))),
+    }
+}
+
+/// The bits of a driver, if it is there, resolved with those before it.
+fn resolved_with(before: Vec4, port: &Option<Vec4>) -> Vec4
+    requires { IfSome port.now (λ bits. length bits ≡ length before) }
+    ensures value { result ≡ with_next resolve_bit before port.now }
+    ensures width { length result ≡ length before }
+{
+    match port {
+        Some(bits) => before.resolve(*bits),
+        None => before,
+    }
+}
+
+/// Strong drivers, resolved in their order.
+fn all_resolved(width: u8, ports: &[Option<Vec4>]) -> Vec4
+    requires least { 1 ≤ width }
+    requires most { width ≤ 128 }
+    requires four { length ports.now ≡ 4 }
+    requires wide { HaveWidth (widths ports.now) width }
+    ensures { result ≡ joined resolve_bit (there ports.now) }
+{
+    let none = Vec4::splat(Bit::HighZ, width);
+    let first = resolved_with(none, &ports[0]);
+    let second = resolved_with(first, &ports[1]);
+    let third = resolved_with(second, &ports[2]);
+    resolved_with(third, &ports[3])
+}
