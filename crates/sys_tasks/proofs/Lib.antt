@@ -1,0 +1,14 @@
+mod ArgumentLemmas
+mod CallLemmas
+mod LineLemmas
+mod SameLemmas
+pub mod BuildLemmas
+mod StartLemmas
+mod PhaseLemmas
+pub mod WritingLemmas
+pub mod LineageLemmas
+pub mod ChosenLemmas
+pub mod DumpLemmas
+pub mod HeaderLemmas
+pub mod SampleLemmas
+pub mod WriterLemmas

@@ -1,0 +1,12 @@
+use Rattle.std.specs.Prelude.{codes}
+use Rattle.sys_tasks.proofs.SampleLemmas.{after-call, call-fits, monitor-fits, sample-answers, two-args}
+use Rattle.sys_tasks.proofs.tests.monitor.Goals as goal
+
+pub call-requires-clause-answers : goal.call-requires-clause-answers
+call-requires-clause-answers c = sample-answers _ _ _ c.requires c.values.result.one c.values.result.four
+
+pub call-requires-clause-fits : goal.call-requires-clause-fits
+call-requires-clause-fits c = call-fits _ _ (codes "$monitor") _ _ c.requires c.in_ok-from_slice-2.ensures (two-args _ _ _ _ _ c.new-args.ensures c.in_ok-push.ensures.ok c.in_ok-push-2.ensures.ok) (monitor-fits _)
+
+pub returns : goal.returns
+returns c = after-call _ _ _ _ _ c.args.tasks.now c.call.new.self c.in_ok-call.ensures.ok c.requires

@@ -1,0 +1,12 @@
+pub mod Kept
+pub mod Names
+pub mod Design
+pub mod Arguments
+pub mod Dumped
+pub mod Tasks
+pub mod Phase
+pub mod Conditions
+pub mod Sound
+pub mod Writer
+pub mod KeepLemmas
+pub mod Sample
