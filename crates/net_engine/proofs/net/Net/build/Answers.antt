@@ -1,0 +1,6 @@
+use Rattle.net_engine.proofs.CallLemmas.{built-net}
+use Rattle.net_engine.proofs.net.Net.build.Goals as goal
+
+pub invariant_of-result : goal.invariant_of-result
+invariant_of-result g c =
+    built-net c.args.program.now c.in_ok-design_of.field-0 c.in_ok-store_of.field-0 c.in_ok-marks_of.field-0.items c.requires.program c.in_ok-design_of.ensures c.in_ok-store_of.ensures c.in_ok-marks_of.ensures

@@ -1,0 +1,25 @@
+use Rattle.std.proofs.Common.{◌≡◌, subst, arith}
+use Rattle.net_engine.specs.Net.{Request}
+use Rattle.net_engine.specs.Delivery.{postponed}
+use Rattle.net_engine.specs.Kept.{Delivers}
+use Rattle.net_engine.proofs.CallLemmas.{none-kept, now-call}
+use Rattle.net_engine.proofs.NetLemmas.{later-delivers}
+use Rattle.net_engine.proofs.SoundLemmas.{net-request}
+use Rattle.net_engine.proofs.net.Net.follow_after.Goals as goal
+
+pub invariant_of-self : goal.invariant_of-self
+invariant_of-self g c =
+    net-request c.self.inside.design c.self.inside.store c.set_request.new.self c.self.inside.marks.items c.self.inside.marks.items c.args.item c.args.request c.self.invariant c.set_request.ensures
+    (none-kept c.args.request _ c.requires.empty) c.self.invariant.marked
+
+pub returns-then-ticks-gt0-clause-state : goal.returns-then-ticks-gt0-clause-state
+returns-then-ticks-gt0-clause-state g c =
+    later-delivers c.args.self.now.nodes c.args.item c.args.ticks c.args.wanted c.args.request c.args.self.now c.postpone.new.self c.args.threads.now c.args.threads.now (g.A.Agenda.schedule c.args.agenda.now) (g.A.Agenda.schedule c.postpone.new.agenda) c.if-ticks-gt0.true
+    (subst (λ (r : Request). Delivers (postponed c.args.item c.args.ticks c.args.wanted r) c.args.self.now c.postpone.new.self c.args.threads.now c.args.threads.now (g.A.Agenda.schedule c.args.agenda.now) (g.A.Agenda.schedule c.postpone.new.agenda)) c.request.view_is
+    (c.postpone.ensures.state c.request.inside.kept))
+
+pub returns-else-ticks-gt0-clause-state : goal.returns-else-ticks-gt0-clause-state
+returns-else-ticks-gt0-clause-state g c =
+    let none : c.args.ticks ≡ 0 = omega arith in
+    now-call c.args.self.now c.change.new.self c.self.inside.design c.self.inside.store c.set_request.new.self c.self.inside.marks.items c.args.item c.args.ticks c.args.wanted c.args.request c.args.threads.now c.change.new.threads
+    (g.A.Agenda.schedule c.args.agenda.now) (g.A.Agenda.schedule c.change.new.agenda) c.self.view_is c.requires.fits none c.set_request.ensures c.change.ensures.state

@@ -1,0 +1,5 @@
+use Rattle.net_engine.proofs.StepLemmas.{place-read}
+use Rattle.net_engine.proofs.store.Store.plane.Goals as goal
+
+pub returns-clause-places : goal.returns-clause-places
+returns-clause-places c = λ item inside. place-read c.self.inside.slots.items c.self.inside.plane c.self.inside.words.items c.self.inside.requests.items c.args.self.now item c.self.invariant c.self.view_is inside

@@ -1,0 +1,304 @@
+//! The values of all items.
+
+ghost use Rattle.std.specs.Prelude.{◌≡◌, ℕ, ◌+◌, ◌<◌, ◌≤◌, [], length, map, Option, Some, IfSome, slice_get, slice_set, slice_index_or};
+ghost use Rattle.std.specs.List.{enumerate_from};
+ghost use Rattle.four_state.specs.Vector.{overlaid};
+ghost use Rattle.net_engine.specs.Net.{driven_of, forced_of, levels_of, array_of, request_of, seen, strongly, with_parts, with_word, with_request};
+ghost use Rattle.net_engine.specs.Delivery.{forced_after, driven_after};
+ghost use Rattle.net_engine.specs.Slots.{Held, held_levels, released, HasPlaces, IsStored, driven_in, forced_in};
+ghost use Rattle.net_engine.specs.Parts.{IsChange, HasBits, place_by_value};
+
+use crate::slot::Slot;
+use four_state::Vec4;
+use std::marker::Model;
+use strengths::{Level, Vec8, drive, seen};
+use value_plane::Plane;
+
+/// What an item was seen as, and what it is seen as.
+#[derive(Clone, Copy)]
+pub(crate) struct Change {
+    pub(crate) old: Vec4,
+    pub(crate) new: Vec4,
+}
+
+/// The words of an array, none for another item. Contracts see the list.
+#[derive(Drop)]
+pub(crate) struct Words {
+    pub(crate) words: Vec<Vec4>,
+}
+
+impl Model for Words {
+    ghost use Rattle.std.specs.Prelude.{List};
+    ghost use Rattle.four_state.specs.declared.bits.Bit.{Bit};
+
+    ghost Value = { List (List Bit) };
+
+    ghost view = { λ w. w.words.items };
+}
+
+/// The last request of a net delay (IEEE 1364-2005, 7.14): its number, and the value that the delay is to follow, if there
+/// is one.
+#[derive(Clone, Copy)]
+pub(crate) struct Request {
+    pub(crate) serial: u64,
+    pub(crate) kept: Option<Vec8>,
+}
+
+impl Model for Request {
+    ghost use Rattle.net_engine.specs.Net.{Request};
+
+    ghost Value = { Request };
+
+    ghost view = { λ r. record { serial = r.serial; kept = r.kept } };
+
+    ghost inverse = { λ r. record { serial = r.serial; kept = r.kept } };
+}
+
+/// The values of all items, by item. Contracts see what drives each, what is forced on it, its words and its last request.
+#[derive(Drop)]
+pub(crate) struct Store {
+    slots: Vec<Option<Slot>>,
+    words: Vec<Words>,
+    requests: Vec<Request>,
+    // The bits that each item is seen as, one x for an item without a value of its own.
+    plane: Plane,
+}
+
+impl Model for Store {
+    ghost use Rattle.std.specs.Prelude.{map};
+    ghost use Rattle.net_engine.specs.Net.{NetValues};
+    ghost use Rattle.net_engine.specs.Slots.{driven_in, forced_in, IsStored};
+
+    ghost Value = { NetValues };
+
+    ghost view = { λ s. record {
+      driven = map driven_in s.slots.items;
+      forced = map forced_in s.slots.items;
+      words = s.words.items;
+      requests = s.requests.items;
+    } };
+
+    ghost invariant = { λ s. IsStored s.slots.items s.plane };
+}
+
+// An item shows `new` in place of `old`: puts it into the plane, and says what changed.
+fn show(plane: &mut Plane, item: u32, old: Vec8, new: Vec8) -> Option<Change>
+    requires there { item < length plane.old }
+    requires width { length new ≡ length (slice_index_or plane.old item []) }
+    requires same { length new ≡ length old }
+    ensures plane { plane.new ≡ slice_set plane.old item (seen new) }
+    ensures change { IsChange result old new }
+    ensures bits { IfSome result HasBits }
+{
+    let bits = seen(new);
+    plane.set(item, bits);
+    if old == new {
+        return None;
+    }
+    let _width = old.width();
+    Some(Change {
+        old: seen(old),
+        new: bits,
+    })
+}
+
+// Drives an item otherwise. What it showed, and what it shows.
+fn drive_at(slots: &mut [Option<Slot>], item: u32, levels: Vec8) -> (Vec8, Vec8)
+    requires { (held : Held) × (slice_get slots.old item ≡ Some (Some held)) × (length levels ≡ length held.driven) }
+    ensures { (held : Held) → slice_get slots.old item ≡ Some (Some held)
+        → (slots.new ≡ slice_set slots.old item (Some (record held { driven = levels })))
+        × (result.0 ≡ held_levels held) × (result.1 ≡ held_levels (record held { driven = levels })) }
+{
+    match &mut slots[item as usize] {
+        Some(slot) => {
+            let old = slot.shown();
+            slot.drive(levels);
+            (old, slot.shown())
+        }
+        None => unreachable!(),
+    }
+}
+
+// Forces every place of an item. What it showed, and what it shows.
+fn force_at(slots: &mut [Option<Slot>], item: u32, levels: Vec8) -> (Vec8, Vec8)
+    requires { (held : Held) × (slice_get slots.old item ≡ Some (Some held)) × (length levels ≡ length held.driven) }
+    ensures { (held : Held) → slice_get slots.old item ≡ Some (Some held)
+        → (slots.new ≡ slice_set slots.old item (Some (record held { forced = map Some levels })))
+        × (result.0 ≡ held_levels held) × (result.1 ≡ held_levels (record held { forced = map Some levels })) }
+{
+    match &mut slots[item as usize] {
+        Some(slot) => {
+            let old = slot.shown();
+            slot.force(levels);
+            (old, slot.shown())
+        }
+        None => unreachable!(),
+    }
+}
+
+// Releases so many places of an item from a base on. What it showed, and what it shows.
+fn release_at(
+    slots: &mut [Option<Slot>],
+    item: u32,
+    base: u8,
+    width: u8,
+    keep: bool,
+) -> (Vec8, Vec8)
+    requires { (held : Held) × (slice_get slots.old item ≡ Some (Some held)) × (length held.forced ≤ 128) }
+    ensures { (held : Held) → slice_get slots.old item ≡ Some (Some held)
+        → (slots.new ≡ slice_set slots.old item (Some (released base width keep held)))
+        × (result.0 ≡ held_levels held) × (result.1 ≡ held_levels (released base width keep held)) }
+{
+    match &mut slots[item as usize] {
+        Some(slot) => {
+            let old = slot.shown();
+            slot.release(base, width, keep);
+            (old, slot.shown())
+        }
+        None => unreachable!(),
+    }
+}
+
+impl Store {
+    /// The values that these slots, words and requests have. The plane shows what the slots show.
+    pub(crate) fn new(
+        slots: Vec<Option<Slot>>,
+        words: Vec<Words>,
+        requests: Vec<Request>,
+        plane: Plane,
+    ) -> Store
+        requires { IsStored slots.items plane }
+        ensures { result ≡ record {
+          driven = map driven_in slots.items;
+          forced = map forced_in slots.items;
+          words = words.items;
+          requests = requests.items;
+        } }
+    {
+        Store {
+            slots,
+            words,
+            requests,
+            plane,
+        }
+    }
+
+    /// The bits that each item is seen as, one x for an item without a value of its own.
+    pub(crate) fn plane(&self) -> &Plane
+        ensures count { length result.now ≡ length self.now.driven }
+        ensures places { (item : ℕ) → item < length self.now.driven → slice_get result.now item ≡ Some (place_by_value self.now item) }
+    {
+        &self.plane
+    }
+
+    /// The bits that an item is seen as.
+    pub(crate) fn bits(&self, item: u32) -> Vec4
+        requires { 1 ≤ length (driven_of self.now item) }
+        ensures { result ≡ seen (levels_of self.now item) }
+    {
+        self.plane.get(item)
+    }
+
+    /// What drives an item.
+    pub(crate) fn driven(&self, item: u32) -> Vec8
+        requires { 1 ≤ length (driven_of self.now item) }
+        ensures { result ≡ driven_of self.now item }
+    {
+        match &self.slots[item as usize] {
+            Some(slot) => slot.driven(),
+            None => unreachable!(),
+        }
+    }
+
+    /// The levels that an item shows.
+    pub(crate) fn shown(&self, item: u32) -> Vec8
+        requires { 1 ≤ length (driven_of self.now item) }
+        ensures { result ≡ levels_of self.now item }
+    {
+        match &self.slots[item as usize] {
+            Some(slot) => slot.shown(),
+            None => unreachable!(),
+        }
+    }
+
+    /// What is forced on a place of an item.
+    pub(crate) fn forced(&self, item: u32, place: u8) -> Option<Level>
+        requires { place < length (forced_of self.now item) }
+        ensures { slice_get (forced_of self.now item) place ≡ Some result }
+    {
+        match &self.slots[item as usize] {
+            Some(slot) => slot.forced(place),
+            None => unreachable!(),
+        }
+    }
+
+    /// Drives an item otherwise. What changed, if its levels did.
+    pub(crate) fn drive(&mut self, item: u32, levels: Vec8) -> Option<Change>
+        requires there { 1 ≤ length (driven_of self.old item) }
+        requires width { length levels ≡ length (driven_of self.old item) }
+        ensures values { self.new ≡ with_parts item levels (forced_of self.old item) self.old }
+        ensures change { IsChange result (levels_of self.old item) (levels_of self.new item) }
+        ensures bits { IfSome result HasBits }
+    {
+        let (old, new) = drive_at(self.slots.as_mut_slice(), item, levels);
+        show(&mut self.plane, item, old, new)
+    }
+
+    /// Forces every place of an item, as strongly as a variable drives. What changed, if its levels did.
+    pub(crate) fn force(&mut self, item: u32, value: Vec4) -> Option<Change>
+        requires there { 1 ≤ length (driven_of self.old item) }
+        requires width { length value ≡ length (driven_of self.old item) }
+        ensures values { self.new ≡ with_parts item (driven_of self.old item) (map Some (strongly value)) self.old }
+        ensures change { IsChange result (levels_of self.old item) (levels_of self.new item) }
+        ensures bits { IfSome result HasBits }
+    {
+        let (old, new) = force_at(self.slots.as_mut_slice(), item, drive(value, 6, 6));
+        show(&mut self.plane, item, old, new)
+    }
+
+    /// Releases so many places of an item from a base on; with `keep` they are driven as they were forced. What changed,
+    /// if its levels did.
+    pub(crate) fn release(&mut self, item: u32, base: u8, width: u8, keep: bool) -> Option<Change>
+        requires there { 1 ≤ length (driven_of self.old item) }
+        ensures values { self.new ≡ with_parts item (driven_after base width keep self.old item)
+            (map (forced_after base width) (enumerate_from 0 (forced_of self.old item))) self.old }
+        ensures change { IsChange result (levels_of self.old item) (levels_of self.new item) }
+        ensures bits { IfSome result HasBits }
+    {
+        let (old, new) = release_at(self.slots.as_mut_slice(), item, base, width, keep);
+        show(&mut self.plane, item, old, new)
+    }
+
+    /// A word of an array.
+    pub(crate) fn word(&self, array: u32, word: u32) -> Vec4
+        requires { word < length (array_of self.now array) }
+        ensures { slice_get (array_of self.now array) word ≡ Some result }
+    {
+        self.words[array as usize].words[word as usize]
+    }
+
+    /// A value is laid over a word of an array, from a place up.
+    pub(crate) fn lay_over(&mut self, array: u32, word: u32, offset: i64, value: Vec4)
+        requires { word < length (array_of self.old array) }
+        ensures { self.new ≡ with_word array word (overlaid (slice_index_or (array_of self.old array) word []) offset value) self.old }
+    {
+        let words = &mut self.words[array as usize];
+        words.words[word as usize] = words.words[word as usize].put(offset, value);
+    }
+
+    /// The last request of a net delay.
+    pub(crate) fn request(&self, item: u32) -> Request
+        requires { item < length self.now.requests }
+        ensures { result ≡ request_of self.now item }
+    {
+        self.requests[item as usize]
+    }
+
+    /// Makes a request of a net delay.
+    pub(crate) fn set_request(&mut self, item: u32, request: Request)
+        requires { item < length self.old.requests }
+        ensures { self.new ≡ with_request item request self.old }
+    {
+        self.requests[item as usize] = request;
+    }
+}
