@@ -45,8 +45,8 @@ fn copy_source(source: &Source) -> Source
     }
 }
 
-// A copy of the sources of four ports.
-fn copy_sources(sources: &Sources) -> Sources
+// Equal sources of four ports.
+fn copied_sources(sources: &[Source; 4]) -> [Source; 4]
     ensures { result ≡ sources.now }
 {
     [
@@ -55,6 +55,13 @@ fn copy_sources(sources: &Sources) -> Sources
         copy_source(&sources[2]),
         copy_source(&sources[3]),
     ]
+}
+
+// A copy of the sources of four ports. The only error is want of memory.
+fn copy_sources(alloc: Global, sources: &Sources) -> Result<Sources, AllocError>
+    ensures { IfOk result (λ copy. copy ≡ sources.now) }
+{
+    Sources::new(alloc, copied_sources(sources.as_array()))
 }
 
 // A copy of what an item is.
@@ -67,11 +74,11 @@ fn copy_kind(alloc: Global, kind: &ItemKind) -> Result<ItemKind, AllocError>
         ItemKind::Functor { gate, drive, ports } => ItemKind::Functor {
             gate: *gate,
             drive: *drive,
-            ports: copy_sources(ports),
+            ports: copy_sources(alloc, ports)?,
         },
         ItemKind::Edge { kind, ports } => ItemKind::Edge {
             kind: *kind,
-            ports: copy_sources(ports),
+            ports: copy_sources(alloc, ports)?,
         },
         ItemKind::Named => ItemKind::Named,
         ItemKind::AnyOf(events) => ItemKind::AnyOf(copy_numbers(alloc, events)?),

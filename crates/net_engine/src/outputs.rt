@@ -44,6 +44,7 @@ fn at_ports<F: Fanout + Drop>(
     ensures value { result ≡ map (at_source design.now store.now) ports.now }
     ensures least { All (λ port. IfSome port (λ levels. 1 ≤ length levels)) result }
 {
+    let ports = ports.as_array();
     [
         at_source(design, store, &ports[0]),
         at_source(design, store, &ports[1]),

@@ -73,6 +73,7 @@ fn push_ports(
     requires sources { AreNamed (length items.now) ports.now }
     ensures { IfOk result (λ _. readers.new.items ≡ readers.old.items ++ filter_map (reader_at (map node_of items.now) at) (enumerate_from 0 ports.now)) }
 {
+    let ports = ports.as_array();
     push_port(items, at, 0, &ports[0], readers)?;
     push_port(items, at, 1, &ports[1], readers)?;
     push_port(items, at, 2, &ports[2], readers)?;

@@ -5,6 +5,8 @@ use Rattle.std.proofs.lemmas.List.{length-map, length-reverse}
 use Rattle.std.proofs.lemmas.List.Elements.{All-replicate, All-set}
 use Rattle.std.specs.Prelude.{All, ◌==◌, nat_lt, slice_get}
 use Rattle.std.specs.Option.{IfSome}
+use Rattle.four_state.specs.declared.bits.Bit.{Bit}
+use Rattle.vvp_lex.specs.Vector.{bit_of, vector_of}
 use Rattle.vvp_lex.specs.declared.types.Name.{Name}
 use Rattle.vvp_lex.specs.declared.types.Spanned.{Spanned}
 use Rattle.vvp_lex.specs.declared.types.Token.{Token}
@@ -18,27 +20,42 @@ use Rattle.vvp_forms.specs.declared.table.Piece.TheVariants as piece
 use Rattle.vvp_forms.specs.Forms.{port_of}
 use Rattle.vvp_forms.specs.Numbers.{integer_at, power_at}
 use Rattle.vvp_forms.specs.Operands.{drives_at, symbols_of, ends_before, no_operands, piece_at, pieces_at}
-use Rattle.vvp_forms.specs.Ports.{between, bit_of, constant_of, port_at, port_in}
+use Rattle.vvp_forms.specs.Ports.{between, constant_of, port_at, port_in}
 
 -- a constant is a vector
 abbrev pub IsVector : Port → Type 0
 IsVector (port.Fixed bits) = (1 ≤ length bits) × (length bits ≤ 128)
 IsVector _ = Unit {0}
 
-constant-vector : (bits : List ℕ) → IfSome (constant_of bits) IsVector
-unfolding constant_of
-constant-vector bits = by (length bits == 0) refl (nat_lt 128 (length bits)) refl
+abbrev is_vector : List Bit → Type 0
+is_vector bits = (1 ≤ length bits) × (length bits ≤ 128)
+
+vector_of-vector : (bits : List ℕ) → IfSome (vector_of bits) is_vector
+unfolding vector_of
+vector_of-vector bits = by (length bits == 0) refl (nat_lt 128 (length bits)) refl
   where
     same : length (reverse (map bit_of bits)) ≡ length bits
     same = length-reverse (map bit_of bits) ∙ length-map bits bit_of
 
-    by : (none : Bool) → (length bits == 0) ≡ none → (long : Bool) → nat_lt 128 (length bits) ≡ long → IfSome (if none then Some port.Unused else (if long then None else Some (port.Fixed (reverse (map bit_of bits))))) IsVector
+    by : (none : Bool) → (length bits == 0) ≡ none → (long : Bool) → nat_lt 128 (length bits) ≡ long → IfSome (if none then None else (if long then None else Some (reverse (map bit_of bits)))) is_vector
     by true is long wide = tt
     by false is true wide = tt
     by false is false wide =
         let some : length bits ≡ 0 → ⊥ = eqb-false (length bits) 0 is in
         let most : length bits ≤ 128 = ltb-false 128 (length bits) wide in
         (omega (arith, same, some), omega (arith, same, most))
+
+abbrev fixed_port : List Bit → Option Port
+fixed_port value = Some (port.Fixed value)
+
+constant-vector : (bits : List ℕ) → IfSome (constant_of bits) IsVector
+unfolding constant_of
+constant-vector bits = by (length bits == 0) (vector_of bits) (vector_of-vector bits)
+  where
+    by : (none : Bool) (o : Option (List Bit)) → IfSome o is_vector → IfSome (if none then Some port.Unused else (o >>= fixed_port)) IsVector
+    by true o is = tt
+    by false (Some value) is = is
+    by false None is = tt
 
 port_in-vector : (file : List ℕ) (t : Token) (span : Name) → IfSome (port_in file t span) IsVector
 port_in-vector file token.Word span = tt

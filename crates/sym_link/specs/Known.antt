@@ -1,7 +1,9 @@
 -- What a file's labels and counts are kept as.
 use Rattle.std.specs.Prelude.{◌≡◌, ℕ, ◌+◌, ◌≤◌, ◌^◌, ◌||◌, Bool, List, length, slice_get, Option, Some, if◌then◌else◌}
-use Rattle.std.specs.HashMap.{get_by}
-use Rattle.std.specs.Str.{bytes_eq}
+use Rattle.std.specs.Borrow.{Bor}
+use Rattle.std.specs.BTreeMap.{BTreeMap, get_by}
+use Rattle.std.specs.Cmp.Lexicographic.{slice_cmp}
+use Rattle.std.specs.Ordering.{nat_cmp}
 use Rattle.sym_link.specs.declared.labels.Counts.{Counts}
 use Rattle.sym_link.specs.declared.labels.File.{File}
 use Rattle.sym_link.specs.declared.placed.Placed.{Placed}
@@ -23,13 +25,13 @@ counted before s = record {
 }
 
 -- the place that is kept for a label
-abbrev pub file_names : File → List ℕ → Option ℕ
-file_names kept name = get_by (λ label. bytes_eq name label.now) kept.names
+abbrev pub kept_for : BTreeMap (Bor (List ℕ)) ℕ → List ℕ → Option ℕ
+kept_for names name = get_by (λ label. slice_cmp nat_cmp name label.now) names
 
 -- a file's statements are kept with the place of the first statement of each label, and the counts before each place
 pub record Knows (file : List ℕ) (all : List Placed) (kept : File) : Type 0 where
   pub source : kept.src.now ≡ file
   pub statements : kept.placed.now ≡ all
   pub few : length all ≤ 2 ^ 26
-  pub names : (name : List ℕ) → file_names kept name ≡ place_of file all name
+  pub names : (name : List ℕ) → kept_for kept.names name ≡ place_of file all name
   pub counts : (place : ℕ) → place ≤ length all → slice_get kept.counts.items place ≡ Some (counts_before all place)

@@ -99,7 +99,7 @@ fn source_of(file: &File<'_>, wanted: Wanted, port: &Port) -> Source
 
 /// What the ports of a form take their values from. `own` is the width of its value.
 #[tactic(auto, unfolding(crate::specs::Meaning::sources_of))]
-fn sources_of(file: &File<'_>, form: &Form, own: Option<u64>) -> Sources
+fn sources_in(file: &File<'_>, form: &Form, own: Option<u64>) -> [Source; 4]
     ensures { (src : List ℕ) → (all : List Placed) → Knows src all file.now → result ≡ sources_of src all form.now own }
 {
     let [first, second, third, fourth] = ports_of(form);
@@ -109,6 +109,18 @@ fn sources_of(file: &File<'_>, form: &Form, own: Option<u64>) -> Sources
         source_of(file, width_wanted(form, own, 2), &third),
         source_of(file, width_wanted(form, own, 3), &fourth),
     ]
+}
+
+/// The same, in memory of their own.
+fn sources_of(
+    alloc: Global,
+    file: &File<'_>,
+    form: &Form,
+    own: Option<u64>,
+) -> Result<Sources, AllocError>
+    ensures { (src : List ℕ) → (all : List Placed) → Knows src all file.now → IfOk result (λ sources. sources ≡ sources_of src all form.now own) }
+{
+    Sources::new(alloc, sources_in(file, form, own))
 }
 
 /// A width, which is at most 128 bits.
@@ -224,22 +236,18 @@ fn gate_item(
     form: &Form,
     gate: Gate,
     scope: u32,
-) -> Item
-    ensures { (src : List ℕ) → (all : List Placed) → KnowsNets src all nets.now → AreFormed all → result ≡ gate_item src all place scope form.now gate }
+) -> Result<Item, AllocError>
+    ensures { (src : List ℕ) → (all : List Placed) → KnowsNets src all nets.now → AreFormed all → IfOk result (λ item. item ≡ gate_item src all place scope form.now gate) }
 {
     let own = nets.root_width(place);
-    let ports = sources_of(&nets.file, form, own);
+    let ports = sources_of(alloc, &nets.file, form, own)?;
     let drive = drive_of(form);
     let width = match own {
         Some(width) => narrow(width),
         None => 0,
     };
-    plain(
-        alloc,
-        scope,
-        width,
-        ItemKind::Functor { gate, drive, ports },
-    )
+    let what = ItemKind::Functor { gate, drive, ports };
+    Ok(plain(alloc, scope, width, what))
 }
 
 /// The item of a form, where it declares one that isn't a gate.
@@ -277,7 +285,7 @@ fn other_item(alloc: Global, nets: &Nets<'_>, place: u32, form: &Form, labelled:
         }
         Form::NamedEvent { name } => Ok(Some(named(alloc, name, scope, ItemKind::Named)?)),
         Form::EdgeEvent { kind, .. } => {
-            let ports = sources_of(file, form, None);
+            let ports = sources_of(alloc, file, form, None)?;
             let what = ItemKind::Edge { kind: *kind, ports };
             Ok(Some(plain(alloc, scope, 0, what)))
         }
@@ -309,7 +317,7 @@ pub fn item_of(
     match &placed.what {
         What::Op(_) => Ok(None),
         What::Form(form) => match gate_of(form) {
-            Some(gate) => Ok(Some(gate_item(alloc, nets, place, form, gate, scope))),
+            Some(gate) => Ok(Some(gate_item(alloc, nets, place, form, gate, scope)?)),
             None => other_item(alloc, nets, place, form, placed.label.is_some(), scope),
         },
     }

@@ -1,16 +1,14 @@
 //! The labels of a file, and what is counted before each of its statements.
 
 ghost use Rattle.std.specs.Prelude.{◌≡◌, ◌≤◌, ◌<◌, ◌+◌, ◌^◌, ℕ, List, [], IfOk, OnOk, Some, length, slice_get, if◌then◌else◌};
-ghost use Rattle.std.specs.HashMap.{get_by};
-ghost use Rattle.std.specs.Str.{bytes_eq};
 ghost use Rattle.vvp_forms.specs.Checks.{places};
-ghost use Rattle.sym_link.specs.Known.{Knows, counted};
+ghost use Rattle.sym_link.specs.Known.{Knows, counted, kept_for};
 ghost use Rattle.sym_link.specs.Places.{counts_before, counts_of, is_opcode_what, is_scope_form, is_thread_form, label_is, place_of, signal_place, sort_at, symbol_code, symbol_item, symbol_place, symbol_scope, symbol_sort, words_in};
 
 use crate::placed::{Placed, What};
 use crate::sorts::{Sort, is_item, is_signal, makes_current, sort_of};
 use std::alloc::{AllocError, Global};
-use std::collections::HashMap;
+use std::collections::BTreeMap;
 use vvp_forms::Form;
 use vvp_lex::{Name, bytes_of};
 
@@ -74,8 +72,8 @@ pub fn is_thread_form(what: &What) -> bool
 pub struct File<'a> {
     src: &'a [u8],
     placed: &'a [Placed],
-    /// The place of the first statement with each label.
-    names: HashMap<&'a [u8], u32>,
+    /// The place of the first statement with each label. The map is a tree, since no choice of labels makes it slow.
+    names: BTreeMap<&'a [u8], u32>,
     /// The counts before each place, and then those of all statements.
     counts: Vec<Counts>,
 }
@@ -235,7 +233,7 @@ fn counts_of(alloc: Global, placed: &[Placed]) -> Result<Vec<Counts>, AllocError
     requires few { length placed.now ≤ 2 ^ 26 }
     ensures { IfOk result (λ counts. (place : ℕ) → place ≤ length placed.now → slice_get counts.items place ≡ Some (counts_before placed.now place)) }
 {
-    let mut all = Vec::new(alloc);
+    let mut all = Vec::with_capacity(alloc, placed.len() + 1)?;
     let mut counts = no_counts();
     all.push(counts)?;
     for one in placed {
@@ -247,12 +245,12 @@ fn counts_of(alloc: Global, placed: &[Placed]) -> Result<Vec<Counts>, AllocError
 
 /// Puts the label of a statement, where it has one, over those that are there.
 fn put_label<'a>(
-    names: &mut HashMap<&'a [u8], u32>,
+    names: &mut BTreeMap<&'a [u8], u32>,
     src: &'a [u8],
     label: Option<Name>,
     place: u32,
 ) -> Result<(), AllocError>
-    ensures { OnOk result ((name : List ℕ) → get_by (λ key. bytes_eq name key.now) names.new ≡ (if label_is src.entry.now name label then Some place else get_by (λ key. bytes_eq name key.now) names.old)) }
+    ensures { OnOk result ((name : List ℕ) → kept_for names.new name ≡ (if label_is src.entry.now name label then Some place else kept_for names.old name)) }
 {
     if let Some(name) = label {
         names.insert(bytes_of(src, name), place)?;
@@ -265,11 +263,11 @@ fn names_of<'a>(
     alloc: Global,
     src: &'a [u8],
     placed: &[Placed],
-) -> Result<HashMap<&'a [u8], u32>, AllocError>
+) -> Result<BTreeMap<&'a [u8], u32>, AllocError>
     requires few { length placed.now ≤ 2 ^ 26 }
-    ensures { IfOk result (λ names. (name : List ℕ) → get_by (λ key. bytes_eq name key.now) names ≡ place_of src.entry.now placed.now name) }
+    ensures { IfOk result (λ names. (name : List ℕ) → kept_for names name ≡ place_of src.entry.now placed.now name) }
 {
-    let mut names = HashMap::new(alloc);
+    let mut names = BTreeMap::new(alloc);
     let mut place = placed.len();
     while place > 0 {
         place -= 1;

@@ -93,9 +93,9 @@ fn kind(what: &ItemKind) -> [u64; 5] {
         ItemKind::Functor { drive, ports, .. } => [
             u64::from(drive.0),
             u64::from(drive.1),
-            source(&ports[0]),
-            source(&ports[1]),
-            source(&ports[2]),
+            source(&ports.as_array()[0]),
+            source(&ports.as_array()[1]),
+            source(&ports.as_array()[2]),
         ],
         ItemKind::Delay {
             rise,

@@ -3,6 +3,6 @@ use Rattle.vvp_forms.specs.declared.table.TheConstants.{ROWS}
 use Rattle.vvp_forms.specs.Table.{rows}
 
 -- the table of the code is the one of the grammar
-pub rows-seen : map (λ row. (row.0.now, row.1, row.2)) ROWS ≡ rows
+pub rows-seen : map (λ row. (row.0.now, row.1)) ROWS ≡ rows
 unfolding rows
 rows-seen = refl

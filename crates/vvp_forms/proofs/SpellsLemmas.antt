@@ -1,9 +1,6 @@
-use Rattle.std.proofs.Common.{◌≡◌, ℕ, zero, suc, ◌<◌, Bool, true, false, ◌&&◌, not, List, [], ◌∷◌, length, get_or, Option, None, Some, Result, Ok, Err, refl, sym, ap, ◌∙◌, subst, if◌then◌else◌, inl, inr, arith}
+use Rattle.std.proofs.Common.{◌≡◌, ℕ, Bool, true, false, List, [], ◌∷◌, Option, None, Some, Result, Ok, Err, refl, sym, ap, ◌∙◌, subst, if◌then◌else◌, inl, inr}
 use Rattle.std.specs.Prelude.{IfOk, IfErr}
 use Rattle.std.specs.List.{Contains}
-use Rattle.std.specs.Str.{bytes_eq}
-use Rattle.std.proofs.lemmas.Bool.{not-true, and_parts}
-use Rattle.std.proofs.lemmas.Slice.Eq.{bytes_eq-Decides}
 use Rattle.vvp_lex.specs.declared.types.Spanned.{Spanned}
 use Rattle.vvp_lex.specs.declared.types.Token.{Token}
 use Rattle.vvp_lex.specs.declared.types.Token.TheVariants as token
@@ -14,83 +11,48 @@ use Rattle.vvp_forms.specs.declared.form.Form.{Form}
 use Rattle.vvp_forms.specs.declared.form.Form.TheVariants as form
 use Rattle.vvp_forms.specs.declared.table.Label.{Label}
 use Rattle.vvp_forms.specs.declared.table.Label.TheVariants as label
+use Rattle.vvp_forms.specs.declared.table.Meaning.{Meaning}
 use Rattle.vvp_forms.specs.declared.table.Row.{Row}
 use Rattle.vvp_forms.specs.declared.table.Row.TheVariants as row
 use Rattle.vvp_forms.specs.declared.pieces.Operands.{Operands}
 use Rattle.vvp_lex.specs.Place.{span_of, bytes_of, is_mark_at}
-use Rattle.vvp_forms.specs.Table.{Spelling, rows, fits, row_spelled, label_of, pieces_of}
+use Rattle.vvp_forms.specs.Table.{Spelling, rows, row_in, row_spelled, label_of, pieces_of}
 use Rattle.vvp_forms.specs.Operands.{no_operands, pieces_at}
 use Rattle.vvp_forms.specs.Checks.{◌>>=◌, needed}
 use Rattle.vvp_forms.specs.Forms.{Answer, form_of}
 use Rattle.vvp_lex.specs.Label.{is_label}
+use Rattle.vvp_lex.specs.Words.{looked_up}
+use Rattle.vvp_lex.proofs.FrontLemmas.{bind-some, some_inj}
+use Rattle.vvp_lex.proofs.TableLemmas.{are_distinct, looked_up-contains, looked_up-found}
 use Rattle.vvp_forms.specs.Reading.{row_or, row_of, label_fits, form_at, after_label, form_spelled, Answers}
 use Rattle.vvp_forms.proofs.PiecesLaw.{pieces-sound, pieces-complete}
 use Rattle.vvp_forms.specs.Spells.{IsRow, LabelIs, SpellsRow, SpellsFirst, Spells, SpellsOnly, SpellsNone}
 
--- whether a spelling is that of the word
-abbrev pub is_match : Spelling → List ℕ → Bool → Bool
-is_match spelling word has_comma = bytes_eq spelling.0 word && fits spelling.1 has_comma
-
--- a spelling is that of no word of a table
-abbrev pub no_match : Spelling → Bool → List Spelling → Bool
-no_match spelling has_comma [] = true
-no_match spelling has_comma (other ∷ more) =
-    not (fits other.1 has_comma && is_match spelling other.0 has_comma) && no_match spelling has_comma more
-
--- no two spellings of a table are those of one word
-abbrev pub are_distinct : Bool → List Spelling → Bool
-are_distinct has_comma [] = true
-are_distinct has_comma (spelling ∷ more) = no_match spelling has_comma more && are_distinct has_comma more
-
-rows-distinct : (has_comma : Bool) → are_distinct has_comma rows ≡ true
+-- no word stands twice in the table
+rows-distinct : are_distinct rows ≡ true
 unfolding rows
-rows-distinct true = refl
-rows-distinct false = refl
+rows-distinct = refl
 
-other-right : (a b : Bool) → a ≡ true → (a && b) ≡ false → b ≡ false
-other-right true b is h = h
-other-right false b is h = absurd (cc)
+-- a spelling of the table is found by its word
+row_spelled-contains : (spelling : Spelling) (has_comma : Bool) → Contains rows spelling → row_spelled spelling.0 has_comma ≡ Some (row_in spelling.1 has_comma)
+unfolding row_spelled
+row_spelled-contains spelling has_comma at = rw (looked_up-contains rows spelling rows-distinct at) refl
 
-bytes_eq-refl : (word : List ℕ) → bytes_eq word word ≡ true
-bytes_eq-refl word = (bytes_eq-Decides word word).1 refl
+-- what is found in the table
+abbrev Found : List ℕ → Bool → Row → Type 0
+Found word has_comma found =
+    (s : Spelling) × Contains rows s × (s.0 ≡ word) × (found ≡ row_in s.1 has_comma)
 
-no_match-at : (spelling : Spelling) (has_comma : Bool) (table : List Spelling) (k : ℕ) (default : Spelling) → no_match spelling has_comma table ≡ true → k < length table → fits (get_or table k default).1 has_comma ≡ true → is_match spelling (get_or table k default).0 has_comma ≡ false
-no_match-at spelling has_comma [] k default h lt fit = absurd (omega arith)
-no_match-at spelling has_comma (other ∷ more) zero default h lt fit =
-    other-right _ _ fit (not-true _ (and_parts _ _ h).0)
-no_match-at spelling has_comma (other ∷ more) (suc k) default h lt fit =
-    no_match-at spelling has_comma more k default (and_parts _ _ h).1 (omega arith) fit
+abbrev named_by : Bool → Meaning → Option Row
+named_by has_comma meaning = Some (row_in meaning has_comma)
 
-row_spelled-at : (table : List Spelling) (k : ℕ) (default : Spelling) (has_comma : Bool) → are_distinct has_comma table ≡ true → k < length table → fits (get_or table k default).1 has_comma ≡ true → row_spelled table (get_or table k default).0 has_comma ≡ Some (get_or table k default).2
-row_spelled-at [] k default has_comma h lt fit = absurd (omega arith)
-row_spelled-at (spelling ∷ more) zero default has_comma h lt fit = rw (bytes_eq-refl spelling.0, fit) refl
-row_spelled-at (spelling ∷ more) (suc k) default has_comma h lt fit =
-    rw (no_match-at spelling has_comma more k default (and_parts _ _ h).0 (omega arith) fit) (row_spelled-at more k default has_comma (and_parts _ _ h).1 (omega arith) fit)
-
--- in a table with no two alike, each spelling is found
-row_spelled-contains : (table : List Spelling) (spelling : Spelling) (has_comma : Bool) → are_distinct has_comma table ≡ true → Contains table spelling → fits spelling.1 has_comma ≡ true → row_spelled table spelling.0 has_comma ≡ Some spelling.2
-row_spelled-contains table spelling has_comma h at fit =
-    let P : Spelling → Type 0 = λ s. fits s.1 has_comma ≡ true → row_spelled table s.0 has_comma ≡ Some s.2 in
-    subst P at.2 (row_spelled-at table at.0 spelling has_comma h at.1) fit
-
--- what is found in a table
-abbrev Found : List Spelling → List ℕ → Bool → Row → Type 0
-Found table word has_comma found =
-    (s : Spelling) × Contains table s × (s.0 ≡ word) × (fits s.1 has_comma ≡ true) × (found ≡ s.2)
-
-row_spelled-found : (table : List Spelling) (word : List ℕ) (has_comma : Bool) (found : Row) → row_spelled table word has_comma ≡ Some found → Found table word has_comma found
-row_spelled-found [] word has_comma found h = absurd (cc)
-row_spelled-found (first ∷ more) word has_comma found h =
-    by (is_match first word has_comma) refl (λ is. row_spelled-found more word has_comma found is) h
-  where
-    deeper : Found more word has_comma found → Found (first ∷ more) word has_comma found
-    deeper f = (f.0, (suc f.1.0, omega (arith, f.1.1), f.1.2), f.2, f.3, f.4)
-
-    by : (same : Bool) → is_match first word has_comma ≡ same → (row_spelled more word has_comma ≡ Some found → Found more word has_comma found) → (if same then Some first.2 else row_spelled more word has_comma) ≡ Some found → Found (first ∷ more) word has_comma found
-    by true e later is =
-        let named : found ≡ first.2 = cc in
-        (first, (0, omega arith, refl), (bytes_eq-Decides first.0 word).0 (and_parts _ _ e).0, (and_parts _ _ e).1, named)
-    by false e later is = deeper (later is)
+row_spelled-found : (word : List ℕ) (has_comma : Bool) (found : Row) → row_spelled word has_comma ≡ Some found → Found word has_comma found
+unfolding row_spelled
+row_spelled-found word has_comma found h =
+    let meaning = bind-some (looked_up rows word) (named_by has_comma) found h in
+    let at = looked_up-found rows word meaning.0 meaning.1 in
+    let named : found ≡ row_in meaning.0 has_comma = sym (some_inj _ found meaning.2) in
+    (at.0, at.1, at.2, named ∙ ap (λ (m : Meaning). row_in m has_comma) (sym at.3))
 
 bind_ok : {A B : Type 0} (r : Result A FormKind) (f : A → Result B FormKind) (y : B) → (r >>= f) ≡ Ok y → (x : A) × (r ≡ Ok x) × (f x ≡ Ok y)
 bind_ok (Ok x) f y is = (x, refl, is)
@@ -100,21 +62,21 @@ bind_ok (Err e) f y is = absurd (cc)
 row-read : (file : List ℕ) (first : Spanned) (tokens : List Spanned) (found : Row) → IsRow file first tokens found → row_of file first.token (span_of first) tokens ≡ Ok found
 row-read file first tokens found (inr lone) = rw (lone.0, lone.1) refl
 row-read file first tokens found (inl s) =
-    let at : row_spelled rows (bytes_of file (span_of first)) (is_mark_at tokens 1 44) ≡ Some s.spelling.2 = ap (λ word. row_spelled rows word (is_mark_at tokens 1 44)) (sym s.bytes) ∙ row_spelled-contains rows s.spelling (is_mark_at tokens 1 44) (rows-distinct _) s.in_table s.second in
+    let at : row_spelled (bytes_of file (span_of first)) (is_mark_at tokens 1 44) ≡ Some (row_in s.spelling.1 (is_mark_at tokens 1 44)) = ap (λ word. row_spelled word (is_mark_at tokens 1 44)) (sym s.bytes) ∙ row_spelled-contains s.spelling (is_mark_at tokens 1 44) s.in_table in
     rw (s.is_word, at, s.names) refl
 
 row-spelled : (file : List ℕ) (first : Spanned) (tokens : List Spanned) (found : Row) → row_of file first.token (span_of first) tokens ≡ Ok found → IsRow file first tokens found
 row-spelled file first tokens found h = by first.token refl h
   where
-    named : (r : Option Row) → row_spelled rows (bytes_of file (span_of first)) (is_mark_at tokens 1 44) ≡ r → row_or (bytes_of file (span_of first)) r ≡ Ok found → first.token ≡ token.Word → IsRow file first tokens found
+    named : (r : Option Row) → row_spelled (bytes_of file (span_of first)) (is_mark_at tokens 1 44) ≡ r → row_or (bytes_of file (span_of first)) r ≡ Ok found → first.token ≡ token.Word → IsRow file first tokens found
     named None e is word = absurd (cc)
     named (Some other) e is word =
         let same : Some other ≡ Some found = cc in
-        let at = row_spelled-found rows (bytes_of file (span_of first)) (is_mark_at tokens 1 44) found (e ∙ same) in
-        inl (record { spelling = at.0; in_table = at.1; is_word = word; bytes = at.2; second = at.3; names = at.4 })
+        let at = row_spelled-found (bytes_of file (span_of first)) (is_mark_at tokens 1 44) found (e ∙ same) in
+        inl (record { spelling = at.0; in_table = at.1; is_word = word; bytes = at.2; names = at.3 })
 
     by : (k : Token) → first.token ≡ k → row_of file k (span_of first) tokens ≡ Ok found → IsRow file first tokens found
-    by token.Word e is = named (row_spelled rows (bytes_of file (span_of first)) (is_mark_at tokens 1 44)) refl is e
+    by token.Word e is = named (row_spelled (bytes_of file (span_of first)) (is_mark_at tokens 1 44)) refl is e
     by token.Text e is = let same : found ≡ row.LoneText = cc in inr (e, same)
     by (token.Number n) e is = absurd (cc)
     by token.Const e is = absurd (cc)

@@ -16,7 +16,7 @@ use Rattle.vvp_forms.specs.declared.table.Row.{Row}
 use Rattle.vvp_forms.specs.declared.table.Row.TheVariants as row
 use Rattle.vvp_lex.specs.Label.{is_label}
 use Rattle.vvp_lex.specs.Place.{span_of, bytes_of, is_mark_at}
-use Rattle.vvp_forms.specs.Table.{rows, row_spelled, label_of, pieces_of}
+use Rattle.vvp_forms.specs.Table.{row_spelled, label_of, pieces_of}
 use Rattle.vvp_forms.specs.Unsupported.{is_unsupported}
 use Rattle.vvp_forms.specs.Operands.{no_operands, pieces_at}
 use Rattle.vvp_forms.specs.Forms.{Answer, form_of}
@@ -30,7 +30,7 @@ row_or word (Some found) = Ok found
 -- the row of the first token, by the tokens after it
 abbrev pub row_of : List ℕ → Token → Name → List Spanned → Result Row FormKind
 row_of file token.Word span tokens =
-    row_or (bytes_of file span) (row_spelled rows (bytes_of file span) (is_mark_at tokens 1 44))
+    row_or (bytes_of file span) (row_spelled (bytes_of file span) (is_mark_at tokens 1 44))
 row_of file token.Text span tokens = Ok row.LoneText
 row_of file _ span tokens = Err kind.UnknownStatement
 

@@ -13,20 +13,19 @@ use Rattle.vvp_forms.specs.declared.table.Row.{Row}
 use Rattle.vvp_forms.specs.declared.table.Row.TheVariants as row
 use Rattle.vvp_forms.specs.declared.pieces.Operands.{Operands}
 use Rattle.vvp_lex.specs.Place.{span_of, bytes_of, is_mark_at}
-use Rattle.vvp_forms.specs.Table.{Spelling, rows, fits, label_of, pieces_of}
+use Rattle.vvp_forms.specs.Table.{Spelling, rows, row_in, label_of, pieces_of}
 use Rattle.vvp_forms.specs.Operands.{no_operands}
 use Rattle.vvp_forms.specs.Pieces.{ArePieces}
 use Rattle.vvp_forms.specs.Forms.{form_of}
 use Rattle.vvp_lex.specs.Label.{is_label}
 
--- A spelling of the table has the word's bytes, and the second token after the word is as it says.
+-- A spelling of the table has the word's bytes, and the row is the one of it that the second token after the word says.
 pub record SpelledBy (file : List ℕ) (first : Spanned) (tokens : List Spanned) (found : Row) : Type 0 where
   pub spelling : Spelling
   pub in_table : Contains rows spelling
   pub is_word : first.token ≡ token.Word
   pub bytes : spelling.0 ≡ bytes_of file (span_of first)
-  pub second : fits spelling.1 (is_mark_at tokens 1 44) ≡ true
-  pub names : found ≡ spelling.2
+  pub names : found ≡ row_in spelling.1 (is_mark_at tokens 1 44)
 
 -- a spelling of the table, or a lone text
 abbrev pub IsRow : List ℕ → Spanned → List Spanned → Row → Type 0

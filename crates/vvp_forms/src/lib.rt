@@ -20,7 +20,7 @@ mod tests;
 mod unsupported;
 
 pub use form::{
-    ArithmeticKind, CompareKind, EdgeKind, Form, Gate, Names, Port, Range, ReduceKind, ScopeKind,
-    ShiftKind, StartKind, VarKind, Within,
+    ArithmeticKind, CompareKind, EdgeKind, Form, Gate, Names, Port, Ports, Range, ReduceKind,
+    ScopeKind, ShiftKind, StartKind, VarKind, Within,
 };
 pub use read::read_form;

@@ -6,7 +6,7 @@ ghost use Rattle.vvp_forms.specs.declared.table.Piece.TheVariants as piece;
 ghost use Rattle.vvp_lex.specs.Place.{IsTextOf};
 ghost use Rattle.vvp_forms.specs.Operands.{no_operands, symbols_of, drives_at, piece_at, ends_before, pieces_at};
 
-use crate::form::{Names, Port};
+use crate::form::{Names, Port, Ports};
 use crate::numbers::{integer_at, power_at};
 use crate::ports::port_at;
 use crate::table::Piece;
@@ -35,17 +35,21 @@ pub struct Operands {
     /// The drive strengths for 0 and 1.
     pub drives: (u64, u64),
     /// The ports.
-    pub ports: [Port; 4],
+    pub ports: Ports,
     /// The place of the last port that is written.
     pub last_port: usize,
 }
 
-/// The slots before anything is read. They take no memory yet.
+/// The slots before anything is read. The only error is want of memory.
 #[tactic(auto, unfolding(crate::specs::Operands::no_operands))]
-fn no_operands(alloc: Global) -> Operands
-    ensures { result ≡ no_operands }
+fn no_operands(alloc: Global) -> Result<Operands, AllocError>
+    ensures { IfOk result (λ operands. operands ≡ no_operands) }
 {
-    Operands {
+    let ports = Ports::new(
+        alloc,
+        [Port::Unused, Port::Unused, Port::Unused, Port::Unused],
+    )?;
+    Ok(Operands {
         starred: false,
         text: Bytes::new(alloc),
         second_text: Bytes::new(alloc),
@@ -55,9 +59,9 @@ fn no_operands(alloc: Global) -> Operands
         numbers: [0, 0, 0, 0, 0],
         integers: [0, 0, 0, 0],
         drives: (6, 6),
-        ports: [Port::Unused, Port::Unused, Port::Unused, Port::Unused],
+        ports,
         last_port: 0,
-    }
+    })
 }
 
 /// The numbers with one of them replaced, if there is such a slot.
@@ -80,15 +84,6 @@ fn with_integer(integers: [i32; 4], slot: usize, value: i32) -> [i32; 4]
         changed[slot] = value;
     }
     changed
-}
-
-/// One of the ports replaced, if there is such a slot.
-fn set_port(ports: &mut [Port], slot: usize, value: Port)
-    ensures { ports.new ≡ slice_set ports.old slot value }
-{
-    if slot < ports.len() {
-        ports[slot] = value;
-    }
 }
 
 /// Symbols with commas between them, to the end. The only error is want of memory.
@@ -272,7 +267,7 @@ fn put_port(src: &[u8], operands: &mut Operands, slot: usize, tokens: &[Spanned]
     ensures { option_map (λ used. (operands.new, used)) result ≡ piece_at src.now (piece.Port slot) operands.old tokens.now }
 {
     let port = port_at(src, tokens, 0)?;
-    set_port(&mut operands.ports, slot, port);
+    operands.ports.set(slot, port);
     operands.last_port = slot;
     Some(1)
 }
@@ -342,7 +337,7 @@ pub fn read_pieces(
     requires texts { All (IsTextOf src.now) tokens.now }
     ensures { IfOk result (λ read. read ≡ pieces_at src.now pieces.now no_operands tokens.now) }
 {
-    let mut operands = no_operands(alloc);
+    let mut operands = no_operands(alloc)?;
     let mut left = pieces;
     let mut rest = tokens;
     while let [piece, more @ ..] = left {

@@ -5,7 +5,6 @@ ghost use Rattle.vvp_lex.specs.Statement.{statements_of, tokens_of};
 ghost use Rattle.vvp_lex.specs.Place.{IsTextOf, span_of};
 ghost use Rattle.vvp_forms.specs.Reading.{row_or, row_of, label_fits, form_at, after_label, form_spelled, Answers};
 ghost use Rattle.vvp_forms.specs.Spells.{SpellsOnly, SpellsNone};
-ghost use Rattle.vvp_forms.specs.Table.{rows, row_spelled};
 
 use crate::form::Form;
 use crate::make::form_of;

@@ -185,12 +185,12 @@ fn show_gate(shown: &mut Shown, rt: &HostRuntime, form: &Form) -> Result<(), All
             shown.number(rt, u64::from(*width))?;
             shown.number(rt, u64::from(drives.0))?;
             shown.number(rt, u64::from(drives.1))?;
-            shown.ports(ports)
+            shown.ports(ports.as_array())
         }
         Form::Resolver { kind, ports } => {
             shown.word(b"resolver")?;
             shown.number(rt, u64::from(*kind as u8))?;
-            shown.ports(ports)
+            shown.ports(ports.as_array())
         }
         Form::Part { port, base, width } => {
             shown.word(b"part")?;
@@ -227,7 +227,7 @@ fn show_gate(shown: &mut Shown, rt: &HostRuntime, form: &Form) -> Result<(), All
             for width in widths {
                 shown.number(rt, u64::from(*width))?;
             }
-            shown.ports(ports)
+            shown.ports(ports.as_array())
         }
         Form::Arithmetic {
             kind,
@@ -280,7 +280,7 @@ fn show_gate(shown: &mut Shown, rt: &HostRuntime, form: &Form) -> Result<(), All
         Form::EdgeEvent { kind, ports } => {
             shown.word(b"edge")?;
             shown.number(rt, u64::from(*kind as u8))?;
-            shown.ports(ports)
+            shown.ports(ports.as_array())
         }
         Form::NamedEvent { name } => {
             shown.word(b"event")?;

@@ -3,6 +3,9 @@
 //! `statements` cuts a file into its statements, and refuses it exactly at its first lexical fault. `tokens` gives
 //! the tokens of one of them, and `text_bytes` the bytes that a string stands for. Nothing is copied out of the
 //! file but a string's bytes: all else is a place in it.
+//!
+//! The crates that read statements find here what they have alike: what stands at a place among the tokens, a word held against
+//! a list of texts or looked up in a table, and the vector that the bytes of a constant spell.
 #![tactic(auto)]
 
 mod bytes;
@@ -12,6 +15,7 @@ mod place;
 mod scan;
 mod text;
 mod types;
+mod vector;
 mod words;
 
 pub use label::{is_label, is_word};
@@ -22,7 +26,8 @@ pub use place::{
 };
 pub use text::{Bytes, text_bytes};
 pub use types::{FormFault, FormKind, LexFault, LexKind, Name, Spanned, Stmt, Token};
-pub use words::{begins_with_one, is_one};
+pub use vector::vector_of;
+pub use words::{begins_with_one, is_one, looked_up};
 
 #[cfg(test)]
 mod tests;

@@ -12,7 +12,7 @@ use crate::types::{LexKind, Token};
 use memchr::{memchr, memchr3};
 
 /// The widest vector, in bits.
-const MOST_BITS: usize = 128;
+pub const MOST_BITS: usize = 128;
 
 /// How many bytes stand before the line's end.
 pub fn line_len(rest: &[u8]) -> usize

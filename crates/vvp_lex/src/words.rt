@@ -1,7 +1,7 @@
-//! Lists of texts that a word is held against, for the crates that read statements.
+//! Lists of texts that a word is held against, and tables of words, for the crates that read statements.
 
 ghost use Rattle.std.specs.Prelude.{◌≡◌, map};
-ghost use Rattle.vvp_lex.specs.Words.{is_one, begins_with_one};
+ghost use Rattle.vvp_lex.specs.Words.{is_one, begins_with_one, looked_up};
 
 /// Whether the word is one of the texts.
 pub fn is_one(word: &[u8], mut texts: &[&[u8]]) -> bool
@@ -27,4 +27,17 @@ pub fn begins_with_one(word: &[u8], mut texts: &[&[u8]]) -> bool
         texts = rest;
     }
     false
+}
+
+/// What the first row of a table with this word says of it.
+pub fn looked_up<R: Copy>(mut table: &[(&'static [u8], R)], word: &[u8]) -> Option<R>
+    ensures { result ≡ looked_up (map (λ row. (row.0.now, row.1)) table.entry.now) word.now }
+{
+    while let [row, rest @ ..] = table {
+        if row.0 == word {
+            return Some(row.1);
+        }
+        table = rest;
+    }
+    None
 }

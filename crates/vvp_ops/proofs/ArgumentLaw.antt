@@ -16,7 +16,8 @@ use Rattle.vvp_ops.specs.declared.args.Arg.{Arg}
 use Rattle.vvp_ops.specs.declared.args.Arg.TheVariants as a
 use Rattle.vvp_lex.specs.Place.{span_of, bytes_of, word_at, Begins, BeginsAt, mark_at}
 use Rattle.vvp_ops.specs.Tokens.{decimal}
-use Rattle.vvp_ops.specs.Arguments.{vector_of, mark_len, sized_vector, based_argument, stack_argument, array_argument, part_argument, place_argument, opens_stack, word_argument, argument_as, argument_at, tokens_in}
+use Rattle.vvp_lex.specs.Vector.{vector_of}
+use Rattle.vvp_ops.specs.Arguments.{mark_len, sized_vector, based_argument, stack_argument, array_argument, part_argument, place_argument, opens_stack, word_argument, argument_as, argument_at, tokens_in}
 use Rattle.vvp_ops.specs.Spelled.{IsTimeWord, IsArgument}
 use Rattle.vvp_lex.proofs.FrontLemmas.{bind-some, some_inj, get-complete, word-sound, mark-next}
 use Rattle.vvp_lex.proofs.BasedLemmas.{IsBasedOf}

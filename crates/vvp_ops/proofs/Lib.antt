@@ -11,4 +11,3 @@ pub mod ArgumentLaw
 pub mod PopsSpells
 pub mod CallLemmas
 pub mod CallSpells
-pub mod VectorLemmas

@@ -1,7 +1,6 @@
 use Rattle.std.proofs.Common.{◌≡◌, ℕ, ◌<◌, suc, zero, Bool, true, false, ◌&&◌, ◌||◌, not, List, [], ◌∷◌, length, get_or, Option, None, Some, Ok, refl, sym, ap, ◌∙◌, subst, inl, inr, if◌then◌else◌, arith}
 use Rattle.std.specs.Option.{option_map}
 use Rattle.std.specs.List.{Contains, All}
-use Rattle.std.specs.Str.{bytes_eq}
 use Rattle.std.proofs.lemmas.Bool.{false≢true, not-true, and_parts}
 use Rattle.std.proofs.lemmas.List.Elements.{All-tail}
 use Rattle.std.proofs.lemmas.Slice.Eq.{bytes_eq-Decides}
@@ -10,27 +9,22 @@ use Rattle.vvp_lex.specs.declared.types.Spanned.{Spanned}
 use Rattle.vvp_ops.specs.declared.op.Op.{Op}
 use Rattle.vvp_ops.specs.declared.operand.Operand.{Operand}
 use Rattle.vvp_lex.specs.Place.{span_of, bytes_of}
-use Rattle.vvp_ops.specs.Table.{Row, rows, row_spelled, opcode_of}
+use Rattle.vvp_ops.specs.declared.table.Kind.{Kind}
+use Rattle.vvp_ops.specs.declared.table.Mnemonic.{Mnemonic}
+use Rattle.vvp_lex.specs.Words.{looked_up}
+use Rattle.vvp_ops.specs.Table.{Meaning, Row, rows, opcode_of}
 use Rattle.vvp_ops.specs.Operands.{operands_of}
 use Rattle.vvp_ops.specs.Calls.{is_task, is_function, task_of, function_of}
 use Rattle.vvp_ops.specs.Grammar.{known, read_row, read_word, read_tokens}
 use Rattle.vvp_lex.proofs.BasedLemmas.{IsBasedOf}
+use Rattle.vvp_lex.proofs.TableLemmas.{are_distinct, looked_up-contains, looked_up-found}
 use Rattle.vvp_ops.proofs.OperandSpells.{is_absent}
 use Rattle.vvp_ops.proofs.RowSpells.{is_formed, operands-sound, operands-complete}
 use Rattle.vvp_ops.proofs.PopsSpells.{task_word-complete, function_word-complete}
 use Rattle.vvp_ops.proofs.CallSpells.{task-read, task-spelled, function-read, function-spelled}
 use Rattle.vvp_ops.specs.Spells.{SpellsRow, SpellsTask, SpellsFunction, Spells}
 
--- no row of a table is spelled so
-abbrev pub no_row_spelled : List ℕ → List Row → Bool
-no_row_spelled word [] = true
-no_row_spelled word (row ∷ more) = not (bytes_eq word row.0) && no_row_spelled word more
-
--- no two rows of a table are spelled alike
-abbrev pub are_distinct : List Row → Bool
-are_distinct [] = true
-are_distinct (row ∷ more) = no_row_spelled row.0 more && are_distinct more
-
+-- no word stands twice in the table
 pub rows-distinct : are_distinct rows ≡ true
 unfolding rows
 rows-distinct = refl
@@ -52,27 +46,6 @@ neither-right : (a b : Bool) → (a || b) ≡ false → b ≡ false
 neither-right true b h = absurd (false≢true (sym h))
 neither-right false b h = h
 
-no_row_spelled-at : (word : List ℕ) (table : List Row) (k : ℕ) (default : Row) → no_row_spelled word table ≡ true → k < length table → bytes_eq word (get_or table k default).0 ≡ false
-no_row_spelled-at word [] k default h lt = absurd (omega arith)
-no_row_spelled-at word (row ∷ more) zero default h lt = not-true _ (and_parts _ _ h).0
-no_row_spelled-at word (row ∷ more) (suc k) default h lt =
-    no_row_spelled-at word more k default (and_parts _ _ h).1 (omega arith)
-
-bytes_eq-refl : (word : List ℕ) → bytes_eq word word ≡ true
-bytes_eq-refl word = (bytes_eq-Decides word word).1 refl
-
-row_spelled-at : (table : List Row) (k : ℕ) (default : Row) → are_distinct table ≡ true → k < length table → row_spelled table (get_or table k default).0 ≡ Some (get_or table k default)
-row_spelled-at [] k default h lt = absurd (omega arith)
-row_spelled-at (row ∷ more) zero default h lt = rw (bytes_eq-refl row.0) refl
-row_spelled-at (row ∷ more) (suc k) default h lt =
-    rw (no_row_spelled-at row.0 more k default (and_parts _ _ h).0 (omega arith)) (row_spelled-at more k default (and_parts _ _ h).1 (omega arith))
-
--- in a table with no two rows alike, each row is found by its spelling
-row_spelled-contains : (table : List Row) (row : Row) → are_distinct table ≡ true → Contains table row → row_spelled table row.0 ≡ Some row
-row_spelled-contains table row h at =
-    let P : Row → Type 0 = λ r. row_spelled table r.0 ≡ Some r in
-    subst P at.2 (row_spelled-at table at.0 row h at.1)
-
 apart-at : (table : List Row) (k : ℕ) (default : Row) → are_apart table ≡ true → k < length table → (is_task (get_or table k default).0 || is_function (get_or table k default).0) ≡ false
 apart-at [] k default h lt = absurd (omega arith)
 apart-at (row ∷ more) zero default h lt = not-true _ (and_parts _ _ h).0
@@ -83,23 +56,30 @@ apart-contains row at =
     let P : Row → Type 0 = λ r. (is_task r.0 || is_function r.0) ≡ false in
     subst P at.2 (apart-at rows at.0 row rows-apart at.1)
 
+-- no operand of these kinds stands after one that is absent
+abbrev pub formed_kinds : Kind × Kind × Kind → Bool
+formed_kinds kinds = is_formed (is_absent kinds.0) (is_absent kinds.1) (is_absent kinds.2)
+
 -- in no row of a table an operand stands after one that is absent
+abbrev pub formed_row : Row → Bool
+formed_row (word, (kinds, mnemonic)) = formed_kinds kinds
+
 abbrev pub are_formed : List Row → Bool
 are_formed [] = true
-are_formed (row ∷ more) = is_formed (is_absent row.1.0) (is_absent row.1.1) (is_absent row.1.2) && are_formed more
+are_formed (row ∷ more) = formed_row row && are_formed more
 
 pub rows-formed : are_formed rows ≡ true
 unfolding rows
 rows-formed = refl
 
-formed-at : (table : List Row) (k : ℕ) (default : Row) → are_formed table ≡ true → k < length table → let row = get_or table k default in is_formed (is_absent row.1.0) (is_absent row.1.1) (is_absent row.1.2) ≡ true
+formed-at : (table : List Row) (k : ℕ) (default : Row) → are_formed table ≡ true → k < length table → formed_row (get_or table k default) ≡ true
 formed-at [] k default h lt = absurd (omega arith)
 formed-at (row ∷ more) zero default h lt = (and_parts _ _ h).0
 formed-at (row ∷ more) (suc k) default h lt = formed-at more k default (and_parts _ _ h).1 (omega arith)
 
-formed-contains : (row : Row) → Contains rows row → is_formed (is_absent row.1.0) (is_absent row.1.1) (is_absent row.1.2) ≡ true
+formed-contains : (row : Row) → Contains rows row → formed_row row ≡ true
 formed-contains row at =
-    let P : Row → Type 0 = λ r. is_formed (is_absent r.1.0) (is_absent r.1.1) (is_absent r.1.2) ≡ true in
+    let P : Row → Type 0 = λ r. formed_row r ≡ true in
     subst P at.2 (formed-at rows at.0 row rows-formed at.1)
 
 -- the word of a function call is none of a task call
@@ -118,7 +98,7 @@ read_word-function : (file word : List ℕ) (tokens : List Spanned) → is_task 
 unfolding read_word
 read_word-function file word tokens no_task function = rw (no_task, function) refl
 
-read_word-row : (file word : List ℕ) (tokens : List Spanned) → is_task word ≡ false → is_function word ≡ false → read_word file word tokens ≡ read_row word (row_spelled rows word) tokens
+read_word-row : (file word : List ℕ) (tokens : List Spanned) → is_task word ≡ false → is_function word ≡ false → read_word file word tokens ≡ read_row word (looked_up rows word) tokens
 unfolding read_word
 read_word-row file word tokens no_task no_function = rw (no_task, no_function) refl
 
@@ -126,12 +106,13 @@ read_word-row file word tokens no_task no_function = rw (no_task, no_function) r
 read-row : (file : List ℕ) (tokens : List Spanned) (opcode : Op Name) → SpellsRow file tokens opcode → read_tokens file tokens ≡ Ok opcode
 read-row file tokens opcode s =
     let word = bytes_of file (span_of s.word) in
-    let no_call = apart-contains s.row s.in_table in
+    let row : Row = (s.bytes, (s.kinds, s.mnemonic)) in
+    let no_call = apart-contains row s.in_table in
     let no_task : is_task word ≡ false = ap is_task (sym s.is_spelled) ∙ neither-left _ _ no_call in
     let no_function : is_function word ≡ false = ap is_function (sym s.is_spelled) ∙ neither-right _ _ no_call in
-    let found : row_spelled rows word ≡ Some s.row = ap (row_spelled rows) (sym s.is_spelled) ∙ row_spelled-contains rows s.row rows-distinct s.in_table in
-    let operands = operands-complete s.row.1 s.rest s.values (formed-contains s.row s.in_table) s.has_operands in
-    ap (read_tokens file) s.begins ∙ read_word-row file word s.rest no_task no_function ∙ ap (λ row. read_row word row s.rest) found ∙ ap (λ values. known (option_map (opcode_of s.row.2) values)) operands ∙ ap Ok (sym s.means)
+    let found : looked_up rows word ≡ Some (s.kinds, s.mnemonic) = ap (looked_up rows) (sym s.is_spelled) ∙ looked_up-contains rows row rows-distinct s.in_table in
+    let operands = operands-complete s.kinds s.rest s.values (formed-contains row s.in_table) s.has_operands in
+    ap (read_tokens file) s.begins ∙ read_word-row file word s.rest no_task no_function ∙ ap (λ (said : Option Meaning). read_row word said s.rest) found ∙ ap (λ values. known (option_map (opcode_of s.mnemonic) values)) operands ∙ ap Ok (sym s.means)
 
 read-task : (file : List ℕ) (tokens : List Spanned) (opcode : Op Name) → SpellsTask file tokens opcode → read_tokens file tokens ≡ Ok opcode
 read-task file tokens opcode s =
@@ -148,35 +129,21 @@ read-spelled file tokens opcode (inl row) = read-row file tokens opcode row
 read-spelled file tokens opcode (inr (inl task)) = read-task file tokens opcode task
 read-spelled file tokens opcode (inr (inr function)) = read-function file tokens opcode function
 
-found_by : (first : Row) (more : List Row) (word : List ℕ) (row : Row) (same : Bool) → bytes_eq first.0 word ≡ same → (row_spelled more word ≡ Some row → Contains more row × (row.0 ≡ word)) → (if same then Some first else row_spelled more word) ≡ Some row → Contains (first ∷ more) row × (row.0 ≡ word)
-found_by first more word row true e later h =
-    let same : first ≡ row = cc in
-    let spelled : first.0 ≡ word = (bytes_eq-Decides first.0 word).0 e in
-    ((0, omega arith, same), ap (λ (r : Row). r.0) (sym same) ∙ spelled)
-found_by first more word row false e later h =
-    let deeper = later h in
-    ((suc deeper.0.0, omega (arith, deeper.0.1), deeper.0.2), deeper.1)
-
--- a row that is found is in the table, and is spelled so
-row_spelled-found : (table : List Row) (word : List ℕ) (row : Row) → row_spelled table word ≡ Some row → Contains table row × (row.0 ≡ word)
-row_spelled-found [] word row h = cc
-row_spelled-found (first ∷ more) word row h =
-    found_by first more word row (bytes_eq first.0 word) refl (row_spelled-found more word row) h
-
 known-ok : (read : Option (Op Name)) (opcode : Op Name) → known read ≡ Ok opcode → read ≡ Some opcode
 known-ok None opcode h = cc
 known-ok (Some read) opcode h = cc
 
-spells_values : (file : List ℕ) (word : Spanned) (rest : List Spanned) (opcode : Op Name) (row : Row) (values : Option (Operand × Operand × Operand)) → row_spelled rows (bytes_of file (span_of word)) ≡ Some row → operands_of row.1 rest ≡ values → known (option_map (opcode_of row.2) values) ≡ Ok opcode → SpellsRow file (word ∷ rest) opcode
-spells_values file word rest opcode row None found e h = cc
-spells_values file word rest opcode row (Some values) found e h =
-    let at = row_spelled-found rows (bytes_of file (span_of word)) row found in
-    record { word = word; rest = rest; row = row; values = values; begins = refl; in_table = at.0; is_spelled = at.1; has_operands = operands-sound row.1 rest values e; means = cc }
+spells_values : (file : List ℕ) (word : Spanned) (rest : List Spanned) (opcode : Op Name) (kinds : Kind × Kind × Kind) (mnemonic : Mnemonic) (values : Option (Operand × Operand × Operand)) → looked_up rows (bytes_of file (span_of word)) ≡ Some (kinds, mnemonic) → operands_of kinds rest ≡ values → known (option_map (opcode_of mnemonic) values) ≡ Ok opcode → SpellsRow file (word ∷ rest) opcode
+spells_values file word rest opcode kinds mnemonic None found e h = cc
+spells_values file word rest opcode kinds mnemonic (Some values) found e h =
+    let at = looked_up-found rows (bytes_of file (span_of word)) (kinds, mnemonic) found in
+    let here : Contains rows (at.0.0, (kinds, mnemonic)) = subst (λ (m : Meaning). Contains rows (at.0.0, m)) at.3 at.1 in
+    record { word = word; rest = rest; bytes = at.0.0; kinds = kinds; mnemonic = mnemonic; values = values; begins = refl; in_table = here; is_spelled = at.2; has_operands = operands-sound kinds rest values e; means = cc }
 
-spells_row : (file : List ℕ) (word : Spanned) (rest : List Spanned) (opcode : Op Name) (found : Option Row) → row_spelled rows (bytes_of file (span_of word)) ≡ found → read_row (bytes_of file (span_of word)) found rest ≡ Ok opcode → SpellsRow file (word ∷ rest) opcode
+spells_row : (file : List ℕ) (word : Spanned) (rest : List Spanned) (opcode : Op Name) (found : Option Meaning) → looked_up rows (bytes_of file (span_of word)) ≡ found → read_row (bytes_of file (span_of word)) found rest ≡ Ok opcode → SpellsRow file (word ∷ rest) opcode
 spells_row file word rest opcode None e h = cc
-spells_row file word rest opcode (Some row) e h =
-    spells_values file word rest opcode row (operands_of row.1 rest) e refl h
+spells_row file word rest opcode (Some (kinds, mnemonic)) e h =
+    spells_values file word rest opcode kinds mnemonic (operands_of kinds rest) e refl h
 
 spells_no_task : (file : List ℕ) (word : Spanned) (rest : List Spanned) (opcode : Op Name) (function : Bool) → All (IsBasedOf file) rest → is_task (bytes_of file (span_of word)) ≡ false → is_function (bytes_of file (span_of word)) ≡ function → read_word file (bytes_of file (span_of word)) rest ≡ Ok opcode → Spells file (word ∷ rest) opcode
 spells_no_task file word rest opcode true based no_task e h =

@@ -16,7 +16,8 @@ use Rattle.vvp_ops.specs.declared.args.Arg.TheVariants as a
 use Rattle.vvp_lex.specs.Place.{◌>>=◌}
 use Rattle.vvp_ops.specs.Tokens.{decimal}
 use Rattle.vvp_lex.specs.Longest.{IsBased}
-use Rattle.vvp_ops.specs.Arguments.{bit_of, vector_of, mark_len, sized_vector, based_argument}
+use Rattle.vvp_lex.specs.Vector.{bit_of, vector_of}
+use Rattle.vvp_ops.specs.Arguments.{mark_len, sized_vector, based_argument}
 use Rattle.vvp_ops.specs.Spelled.{mark_of, IsVector}
 use Rattle.vvp_lex.proofs.FrontLemmas.{bind-some, some_inj}
 use Rattle.vvp_ops.proofs.ArgumentSpells.{if-some}

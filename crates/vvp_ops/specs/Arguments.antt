@@ -9,27 +9,11 @@ use Rattle.vvp_lex.specs.declared.types.Spanned.{Spanned}
 use Rattle.vvp_lex.specs.declared.types.Token.{Token}
 use Rattle.vvp_lex.specs.declared.types.Token.TheVariants as token
 use Rattle.vvp_lex.specs.Unescaped.{text_of}
-use Rattle.four_state.specs.declared.bits.Bit.{Bit}
-use Rattle.four_state.specs.declared.bits.Bit.TheVariants as bit
 use Rattle.vvp_ops.specs.declared.args.Arg.{Arg}
 use Rattle.vvp_ops.specs.declared.args.Arg.TheVariants as a
 use Rattle.vvp_lex.specs.Place.{◌>>=◌, span_of, bytes_of, number_at, word_at, mark_at}
+use Rattle.vvp_lex.specs.Vector.{vector_of}
 use Rattle.vvp_ops.specs.Tokens.{decimal}
-
--- the bit that a byte of a vector spells
-abbrev pub bit_of : ℕ → Bit
-bit_of byte =
-    if byte == 48 then bit.Zero
-    else (if byte == 49 then bit.One
-    else (if byte == 122 || byte == 90 then bit.HighZ
-    else bit.Unknown))
-
--- the vector of 1 to 128 bits that are spelled highest first, as a list with the lowest first
-unfoldable pub vector_of : List ℕ → Option (List Bit)
-vector_of bits =
-    if length bits == 0 then None
-    else (if nat_lt 128 (length bits) then None
-    else Some (reverse (map bit_of bits)))
 
 -- how many bytes stand between the size of `4'sb01xz` or `4'b01xz` and its bits
 abbrev pub mark_len : Bool → ℕ

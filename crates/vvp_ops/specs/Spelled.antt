@@ -17,7 +17,7 @@ use Rattle.vvp_ops.specs.declared.operand.Operand.{Operand}
 use Rattle.vvp_ops.specs.declared.operand.Operand.TheVariants as operand
 use Rattle.vvp_lex.specs.Place.{bytes_of, Begins, BeginsAt}
 use Rattle.vvp_ops.specs.Tokens.{decimal}
-use Rattle.vvp_ops.specs.Arguments.{bit_of}
+use Rattle.vvp_lex.specs.Vector.{bit_of}
 
 -- a word with these bytes
 abbrev pub OneWord : List ℕ → List ℕ → List Spanned → List Spanned → Type 0

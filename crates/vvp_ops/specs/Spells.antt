@@ -13,7 +13,9 @@ use Rattle.vvp_ops.specs.declared.op.Op.{Op}
 use Rattle.vvp_ops.specs.declared.op.Op.TheVariants as o
 use Rattle.vvp_ops.specs.declared.operand.Operand.{Operand}
 use Rattle.vvp_lex.specs.Place.{span_of, bytes_of, Begins, BeginsAt}
-use Rattle.vvp_ops.specs.Table.{Row, rows, opcode_of}
+use Rattle.vvp_ops.specs.declared.table.Kind.{Kind}
+use Rattle.vvp_ops.specs.declared.table.Mnemonic.{Mnemonic}
+use Rattle.vvp_ops.specs.Table.{rows, opcode_of}
 use Rattle.vvp_ops.specs.Spelled.{AreOperands, AreArguments, ArePops, IsTaskWord, IsFunctionWord}
 
 -- A row of the table has the first token's bytes, the other tokens are operands of its kinds with commas between them,
@@ -21,13 +23,15 @@ use Rattle.vvp_ops.specs.Spelled.{AreOperands, AreArguments, ArePops, IsTaskWord
 pub record SpellsRow (file : List ℕ) (tokens : List Spanned) (opcode : Op Name) : Type 0 where
   pub word : Spanned
   pub rest : List Spanned
-  pub row : Row
+  pub bytes : List ℕ
+  pub kinds : Kind × Kind × Kind
+  pub mnemonic : Mnemonic
   pub values : Operand × Operand × Operand
   pub begins : tokens ≡ word ∷ rest
-  pub in_table : Contains rows row
-  pub is_spelled : row.0 ≡ bytes_of file (span_of word)
-  pub has_operands : AreOperands row.1 rest values
-  pub means : opcode ≡ opcode_of row.2 values
+  pub in_table : Contains rows (bytes, (kinds, mnemonic))
+  pub is_spelled : bytes ≡ bytes_of file (span_of word)
+  pub has_operands : AreOperands kinds rest values
+  pub means : opcode ≡ opcode_of mnemonic values
 
 -- The first token is a word of task calls, and after it come two numbers, a text, arguments and `{n 0 0}`.
 pub record SpellsTask (file : List ℕ) (tokens : List Spanned) (opcode : Op Name) : Type 0 where

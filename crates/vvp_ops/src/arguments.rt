@@ -1,60 +1,18 @@
 //! Reading the arguments of a call.
 
-ghost use Rattle.std.specs.Prelude.{◌≡◌, ◌≤◌, ◌^◌, ◌+◌, All, IfOk, ◌++◌, ◌∷◌, [], ◌<◌, map, reverse, take, length};
+ghost use Rattle.std.specs.Prelude.{◌≡◌, ◌≤◌, ◌^◌, ◌+◌, All, IfOk, take, length};
 ghost use Rattle.std.specs.List.{prefix_len, AllPass};
 ghost use Rattle.std.specs.Char.{is_ascii_digit};
 ghost use Rattle.vvp_lex.specs.Place.{IsTextOf};
-ghost use Rattle.vvp_ops.specs.Arguments.{bit_of, vector_of, mark_len, sized_vector, based_argument, stack_type, stack_argument, array_argument, part_argument, place_argument, opens_stack, word_argument, argument_at};
+ghost use Rattle.vvp_ops.specs.Arguments.{mark_len, sized_vector, based_argument, stack_type, stack_argument, array_argument, part_argument, place_argument, opens_stack, word_argument, argument_at};
 
 use crate::args::Arg;
 use crate::tokens::{are_digits, decimal};
-use four_state::{Bit, Vec4};
 use std::alloc::{AllocError, Global};
 use vvp_lex::{
     Name, Spanned, Token, byte_at, bytes_after, bytes_of, mark_at, number_at, span, text_bytes,
-    word_at,
+    vector_of, word_at,
 };
-
-/// The widest vector, in bits.
-const MOST_BITS: usize = 128;
-
-/// The bit that a byte of a vector spells.
-fn bit_of(byte: u8) -> Bit
-    ensures { result ≡ bit_of byte }
-{
-    match byte {
-        b'0' => Bit::Zero,
-        b'1' => Bit::One,
-        b'z' | b'Z' => Bit::HighZ,
-        _ => Bit::Unknown,
-    }
-}
-
-/// The vector with the bits that are spelled highest first, and with `top` above them.
-fn with_bits(top: Bit, bits: &[u8]) -> Vec4
-    requires { length bits.now < 128 }
-    ensures { result ≡ reverse (map bit_of bits.now) ++ top ∷ [] }
-{
-    let mut vector = Vec4::splat(top, 1);
-    for byte in bits {
-        vector = vector.concat(Vec4::splat(bit_of(*byte), 1));
-    }
-    vector
-}
-
-/// The vector of 1 to 128 bits that are spelled highest first.
-#[tactic(auto, unfolding(crate::specs::Arguments::vector_of))]
-fn vector_of(bits: &[u8]) -> Option<Vec4>
-    ensures { result ≡ vector_of bits.now }
-{
-    if bits.is_empty() {
-        return None;
-    }
-    if MOST_BITS < bits.len() {
-        return None;
-    }
-    Some(with_bits(bit_of(bits[0]), bytes_after(bits, 1)))
-}
 
 /// How many bytes stand between a vector's size and its bits.
 fn mark_len(signed: bool) -> usize

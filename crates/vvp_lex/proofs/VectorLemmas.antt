@@ -2,7 +2,7 @@ use Rattle.std.proofs.Common.{◌≡◌, ℕ, false, ◌<◌, ◌≤◌, List, [
 use Rattle.std.proofs.lemmas.List.{reverse-append}
 use Rattle.four_state.specs.declared.bits.Bit.{Bit}
 use Rattle.std.proofs.lemmas.Bool.Decides.{nat_tests}
-use Rattle.vvp_ops.specs.Arguments.{bit_of, vector_of}
+use Rattle.vvp_lex.specs.Vector.{bit_of, vector_of}
 
 -- a vector is its first bit, and the others below it
 pub vector-first : (bits : List ℕ) → 0 < length bits → reverse (map bit_of (drop 1 bits)) ++ bit_of (get_or bits 0 0) ∷ [] ≡ reverse (map bit_of bits)

@@ -1,6 +1,6 @@
 use Rattle.std.proofs.Common.{sym, ◌∙◌, arith}
-use Rattle.vvp_ops.proofs.VectorLemmas.{vector_of-some}
-use Rattle.vvp_ops.proofs.arguments.vector_of.Goals as goal
+use Rattle.vvp_lex.proofs.VectorLemmas.{vector_of-some}
+use Rattle.vvp_lex.proofs.vector.vector_of.Goals as goal
 
 pub returns : goal.returns
 returns c =

@@ -1,7 +1,0 @@
-use Rattle.std.proofs.Common.{ap, ◌∙◌}
-use Rattle.vvp_forms.specs.Table.{row_spelled}
-use Rattle.vvp_forms.proofs.Rows.{rows-seen}
-use Rattle.vvp_forms.proofs.table.row_for.Goals as goal
-
-pub returns : goal.returns
-returns c = c.lookup.ensures ∙ ap (λ table. row_spelled table c.args.word.now c.args.comma) rows-seen

@@ -1,6 +1,0 @@
-use Rattle.std.proofs.Common.{◌≡◌, [], ◌∷◌, ◌++◌, map, reverse, take}
-use Rattle.vvp_ops.specs.Arguments.{bit_of}
-use Rattle.vvp_ops.proofs.arguments.with_bits.Given as goal
-
-abbrev pub invariant-loop-byte : goal.invariant-loop-byte
-invariant-loop-byte l = l.vector ≡ reverse (map bit_of (take l.byte-index l.bits)) ++ l.fn.top ∷ []
