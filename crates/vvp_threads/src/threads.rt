@@ -159,7 +159,9 @@ impl Threads {
         Ok(key)
     }
 
-    /// The thread with a key, in constant time. None exactly where no live thread has it.
+    /// The thread with a key, in constant time. None exactly where no live thread has it. Its clauses also tell what holds
+    /// of all threads: who stands in an event's queue waits for it, and the lists of threads and keys are equally long.
+    #[inline]
     pub fn get(&self, key: usize) -> Option<&Thread>
         ensures thread { (serial : ℕ) → IsKeyOf self.now serial key
             → option_copied result ≡ thread_of self.now.table serial }
@@ -167,6 +169,9 @@ impl Threads {
         ensures serial { IfSome result (λ thread. (serial : ℕ) → IsKeyOf self.now serial key → thread.now.serial ≡ serial) }
         ensures none { IfNone result (IsNoKey self.now key) }
         ensures keyed { (serial : ℕ) → is_some (slot_at self.now.keys serial) ≡ is_some (thread_of self.now.table serial) }
+        ensures waiting { (event serial : ℕ) → has (waiters_of self.now.table event) serial ≡ true
+            → IsInState self.now.table serial (ThreadState.Waiting event) }
+        ensures keys { length self.now.keys ≡ length self.now.table.threads }
     {
         self.slab.get(key)
     }

@@ -1,7 +1,9 @@
-use Rattle.std.proofs.Common.{◌≡◌, ℕ, IfSome, IfNone, ap, subst, ◌∙◌}
-use Rattle.vvp_threads.specs.Table.{slot_at}
+use Rattle.std.proofs.Common.{◌≡◌, ℕ, true, IfSome, IfNone, length, sym, ap, subst, ◌∙◌}
+use Rattle.vvp_threads.specs.declared.thread.ThreadState.TheVariants.{Waiting}
+use Rattle.vvp_threads.specs.Table.{slot_at, has, waiters_of, IsInState}
 use Rattle.vvp_threads.specs.Keyed.{IsKeyOf, IsNoKey}
 use Rattle.vvp_threads.proofs.KeyLemmas.{thread_kept, if_key, if_serial, if_no_key}
+use Rattle.vvp_threads.proofs.KeptLemmas.{length-keys, length-threads}
 use Rattle.vvp_threads.proofs.CallRuns.{view-keyed}
 use Rattle.vvp_threads.proofs.threads.Threads.get.Goals as goal
 
@@ -24,3 +26,13 @@ returns-clause-serial c =
 pub returns-clause-keyed : goal.returns-clause-keyed
 returns-clause-keyed c serial =
     view-keyed c.self.inside.places.slots c.self.inside.slab c.self.inside.waiting.queues c.self.inside.waiting.spare c.args.self.now c.self.view_is c.self.invariant.0 c.self.invariant.1 serial
+
+pub returns-clause-waiting : goal.returns-clause-waiting
+returns-clause-waiting c =
+    subst (λ v. (event serial : ℕ) → has (waiters_of v.table event) serial ≡ true → IsInState v.table serial (Waiting event)) c.self.view_is
+    c.self.invariant.1.states.waiting
+
+pub returns-clause-keys : goal.returns-clause-keys
+returns-clause-keys c =
+    subst (λ v. length v.keys ≡ length v.table.threads) c.self.view_is
+    (length-keys c.self.inside.places.slots ∙ sym (length-threads c.self.inside.places.slots c.self.inside.slab))
