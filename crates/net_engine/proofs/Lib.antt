@@ -22,3 +22,4 @@ pub mod BoundLemmas
 pub mod StepLemmas
 pub mod CallLemmas
 pub mod BuildLemmas
+pub mod TestLemmas

@@ -9,7 +9,7 @@ ghost use Rattle.net_engine.specs.Net.{with_request, words_of, value_of, driven_
 ghost use Rattle.net_engine.specs.Delivery.{write, eval, mature, force, release, trigger, change, variable_assigned, asked, asked_anew, follows_after, postponed};
 ghost use Rattle.net_engine.specs.Kept.{Fits, FitsBut, Delivers, IsWritable, IsDelay, HasOutput, has_output, evals_lacking};
 ghost use Rattle.net_engine.specs.Readers.{driven_ports};
-ghost use Rattle.net_engine.specs.Parts.{plane_of, HasLevels, HasValue, AsksAtMost, keeps};
+ghost use Rattle.net_engine.specs.Parts.{plane_of, HasLevels, HasValue, AreWide, AsksAtMost, keeps};
 
 use crate::build::{design_of, marks_of, store_of};
 use crate::deliver::{follow, trigger};
@@ -77,6 +77,14 @@ impl<F: Fanout + Drop> Net<F> {
             store: store_of(alloc, program)?,
             marks: marks_of(alloc, program)?,
         })
+    }
+
+    /// Does nothing. Tells that each item's values are as wide as the item.
+    #[inline]
+    pub fn widths(&self)
+        ensures { AreWide self.now.nodes self.now.values }
+    {
+        let _marks = &self.marks;
     }
 
     /// A word of an item: word 0 of a variable, a net, a gate or a net delay, or a word of an array.

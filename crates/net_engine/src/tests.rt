@@ -1,9 +1,24 @@
+ghost use Rattle.std.specs.Prelude.{◌≡◌, ◌<◌, false, length, replicate, IfOk};
+ghost use Rattle.sym_link.specs.Sound.{IsProgram};
+ghost use Rattle.sym_link.specs.Roots.{nodes_of};
+ghost use Rattle.net_engine.specs.Parts.{HasBits};
+
+use crate::build::design_of;
+use crate::deliver::follow;
+use crate::design::Design;
+use crate::readers::reader_list;
 use crate::slot::Slot;
+use crate::store::Change;
+use event_pool::{Act, Agenda, ListAgenda};
 use four_state::Vec4;
+use port_chain::ChainFanout;
 use std::alloc::{AllocError, Global};
 use std::process::Abort;
 use std::test::Fail;
 use strengths::{drive, seen};
+use sym_link::{Program, link, read_statements};
+use vvp_lex::statements;
+use vvp_threads::Threads;
 
 // What drives four places and what is forced on them, as the two planes of each, a release, and what is shown after it and
 // what drives then.
@@ -68,6 +83,143 @@ fn forces_and_releases(rt: HostRuntime) -> Result<(), Fail> {
     ];
     for row in &rows {
         assert!(rt; holds(&rt, rt.alloc(), row)?);
+    }
+    Ok(())
+}
+
+// Twenty inputs: those of gates, of a resolver, of events with an edge, and of a net delay. The items are numbered from 0.
+#[rattlefmt::skip]
+const DESIGN: &[u8] = b"S_1 .scope module, \"m\" \"m\" 1 1;
+v_0 .var \"v\", 3 0;
+v_1 .var \"w\", 3 0;
+n_0 .net \"n\", 3 0, v_0;
+L_1 .functor AND 4, v_0, v_1, n_0;
+E_1 .event posedge, v_1, v_0;
+r_0 .resolv tri, v_0, v_1, L_1;
+E_2 .event negedge, v_0;
+d_0 .delay 4 (1, 2, 3) n_0;
+L_2 .functor OR 4, v_1, L_1;
+E_3 .event/or E_1, E_2;
+E_4 .event edge, v_0, n_0;
+L_3 .functor NOT 4, v_0;
+L_4 .functor XOR 4, v_0, v_0, v_0, v_0;
+L_5 .functor BUFZ 4, v_1;
+";
+
+const EITHER_EVENT: u32 = 10;
+
+const RUN: u32 = 100;
+
+const OTHER: u32 = 101;
+
+// An item, the planes of its bits before and after, the evaluations and runs that follow, in order, and how many they are.
+const CHANGES: [(u32, (u128, u128), (u128, u128), [u32; 6], usize); 4] = [
+    (1, (0b1111, 0b1111), (0b0001, 0), [4, RUN, 6, 8, 12, 13], 6),
+    (1, (0b0001, 0), (0b0000, 0), [4, 6, RUN, 8, 12, 13], 6),
+    (1, (0b0001, 0), (0b0011, 0), [4, 6, 8, 12, 13, 0], 5),
+    (2, (0b1111, 0b1111), (0b0000, 0), [4, 6, 9, 14, 0, 0], 4),
+];
+
+// The program of a small file.
+fn linked(alloc: Global, src: &[u8]) -> Result<Program, Fail>
+    ensures { IfOk result IsProgram }
+{
+    if 5000 < src.len() {
+        return Err(Fail::from(AllocError));
+    }
+    let found = statements(alloc, src)?;
+    let placed = read_statements(alloc, src, &found)?;
+    match link(alloc, src, placed) {
+        Ok(program) => Ok(program),
+        Err(_fault) => Err(Fail::from(AllocError)),
+    }
+}
+
+// The design of a program, its inputs in chains.
+fn chained(alloc: Global, program: &Program) -> Result<Design<ChainFanout>, AllocError>
+    requires { IsProgram program.now }
+    ensures { IfOk result (λ design. design ≡ nodes_of program.now) }
+{
+    let readers = reader_list(alloc, program)?;
+    let count = program.items.as_slice().len() as u32;
+    let fan = ChainFanout::build(alloc, count, readers.as_slice())?;
+    design_of(alloc, program, fan)
+}
+
+// One thread, which waits for an event, one of so many.
+fn one_waits(alloc: Global, events: u32, event: u32) -> Result<Threads, AllocError>
+    requires { event < events }
+    ensures { IfOk result (λ threads. (length threads.table.threads ≡ 1) × (length threads.table.waiting ≡ events)) }
+{
+    let mut threads = Threads::new(alloc, events)?;
+    let key = threads.spawn(None, 0, 0)?;
+    threads.wait_on(key, event);
+    Ok(threads)
+}
+
+// So many items, none of which is to be evaluated.
+fn no_marks(alloc: Global, count: usize) -> Result<Vec<bool>, AllocError>
+    ensures { IfOk result (λ marks. marks.items ≡ replicate count false) }
+{
+    vec![in alloc; false; count]
+}
+
+// The number of what is due: that of the item that is evaluated, or RUN.
+fn number(act: Act) -> u32 {
+    match act {
+        Act::Eval(item) => item,
+        Act::Run { .. } => RUN,
+        _ => OTHER,
+    }
+}
+
+// What follows from a change of an item, in order.
+fn followed(
+    alloc: Global,
+    program: &Program,
+    item: u32,
+    change: Change,
+) -> Result<Vec<u32>, AllocError>
+    requires program { IsProgram program.now }
+    requires item { item < length program.now.items }
+    requires event { 10 < length program.now.items }
+    requires bits { HasBits change }
+{
+    let count = program.items.as_slice().len();
+    let design = chained(alloc, program)?;
+    let mut marks = no_marks(alloc, count)?;
+    let mut threads = one_waits(alloc, count as u32, EITHER_EVENT)?;
+    let mut agenda = ListAgenda::new(alloc);
+    agenda.reserve(count + 1)?;
+    follow(
+        &design,
+        marks.as_mut_slice(),
+        item,
+        Some(change),
+        &mut agenda,
+        &mut threads,
+    );
+    let dues = agenda.dues(alloc)?;
+    let mut numbers = Vec::new(alloc);
+    for due in dues.as_slice() {
+        numbers.push(number(due.act))?;
+    }
+    Ok(numbers)
+}
+
+#[test]
+fn reaches_inputs_in_order(rt: HostRuntime) -> Result<(), Fail> {
+    let program = linked(rt.alloc(), DESIGN)?;
+    assert_eq!(rt; program.items.as_slice().len(), 15);
+    for (item, old, new, numbers, count) in CHANGES {
+        let change = Change {
+            old: Vec4::from_planes(old.0, old.1, 4),
+            new: Vec4::from_planes(new.0, new.1, 4),
+        };
+        assert!(rt; item < 15);
+        assert_eq!(rt; change.old.width(), change.new.width());
+        let found = followed(rt.alloc(), &program, item, change)?;
+        assert_eq!(rt; found.as_slice(), &numbers[..count]);
     }
     Ok(())
 }
