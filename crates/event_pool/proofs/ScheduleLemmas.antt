@@ -1,103 +1,12 @@
--- Steps of the loops over a plain list of dues.
-use Rattle.std.proofs.Common.{◌≡◌, ℕ, zero, suc, ◌+◌, ◌<◌, ◌≤◌, min, Bool, true, false, List, [], ◌∷◌, ◌++◌, length, get_or, take, drop, slice_get, Some, cond, filter, refl, sym, ap, subst, ◌∙◌, arith, append_assoc, add-one, ◌&&◌, ◌||◌, nat_eq}
-use Rattle.std.specs.List.{remove}
-use Rattle.std.proofs.lemmas.List.{drop_more, drop_all, take_more}
-use Rattle.std.proofs.lemmas.Option.{slice_get-get_or}
+-- What settling and going on make of a plain list of dues.
+use Rattle.std.proofs.Common.{◌≡◌, ℕ, ◌<◌, ◌≤◌, min, Bool, true, false, List, [], ◌∷◌, cond, refl, sym, ◌∙◌, arith, ◌&&◌, ◌||◌, nat_eq}
 use Rattle.std.proofs.lemmas.List.Elements.{All-map, All-weaker, All-from_recursion, recursion_from_All}
 use Rattle.std.proofs.lemmas.Bool.Decides.{nat_tests}
 use Rattle.std.specs.List.{All, list_any, AllByRecursion}
-use Rattle.event_pool.specs.Schedule.{without_nth, earliest, least_time, promote, is_due_in, is_active_at, promoted_due, settled_dues, IsTimelyAt, region_eq}
+use Rattle.event_pool.specs.Schedule.{earliest, least_time, promote, is_due_in, is_active_at, promoted_due, settled_dues, IsTimelyAt, region_eq}
 use Rattle.event_pool.specs.declared.agenda.Region.{Region}
 use Rattle.event_pool.specs.declared.agenda.Region.TheVariants.{Active, Inactive, Nonblocking}
 use Rattle.event_pool.specs.declared.agenda.Due.{Due}
-
-module _ {X : Type 0} (test : X → Bool) where
-  -- from place i on, the k-th element that passes the test is the one that `left` others come before
-  pub record CountsBefore (xs : List X) (k i left : ℕ) : Type 0 where
-    pub some : left < length (filter test (drop i xs))
-    pub nth : slice_get (filter test (drop i xs)) left ≡ slice_get (filter test xs) k
-    pub rest : without_nth test k xs ≡ take i xs ++ without_nth test left (drop i xs)
-
-  pub CountsBefore-start : (xs : List X) (k : ℕ) → k < length (filter test xs) → CountsBefore xs k 0 k
-  CountsBefore-start xs k some = record { some = some; nth = refl; rest = refl }
-
-  without_nth-fails : (left : ℕ) (x : X) (xs : List X) → test x ≡ false → without_nth test left (x ∷ xs) ≡ x ∷ without_nth test left xs
-  without_nth-fails zero x xs fails = rw fails refl
-  without_nth-fails (suc left) x xs fails = rw fails refl
-
-  -- an element at place i that stays moves to the front part
-  moved : (xs : List X) (i : ℕ) (x : X) (rest : List X) → i < length xs → x ≡ get_or xs i x → take i xs ++ x ∷ rest ≡ take (i + 1) xs ++ rest
-  moved xs i x rest within is =
-      ap (λ y. take i xs ++ y ∷ rest) is ∙ sym (append_assoc (take i xs) (get_or xs i x ∷ []) rest) ∙ ap (λ ys. ys ++ rest) (sym (take_more xs i x within))
-
-  pub CountsBefore-fails : (xs : List X) (k i left : ℕ) (x : X) → i < length xs → x ≡ get_or xs i x → test x ≡ false → CountsBefore xs k i left → CountsBefore xs k (i + 1) left
-  CountsBefore-fails xs k i left x within is fails c =
-      let split : drop i xs ≡ x ∷ drop (i + 1) xs = drop_more xs i x within ∙ ap (λ y. y ∷ drop (i + 1) xs) (sym is) in
-      let same : filter test (drop i xs) ≡ filter test (drop (i + 1) xs) = rw (split, fails) refl in
-      record {
-        some = subst (λ (ys : List X). left < length ys) same c.some;
-        nth = ap (λ ys. slice_get ys left) (sym same) ∙ c.nth;
-        rest = c.rest ∙ ap (λ ys. take i xs ++ without_nth test left ys) split ∙ ap (λ ys. take i xs ++ ys) (without_nth-fails left x (drop (i + 1) xs) fails)
-            ∙ moved xs i x (without_nth test left (drop (i + 1) xs)) within is;
-      }
-
-  passes_one : (xs : List X) (k i left : ℕ) (x : X) → i < length xs → x ≡ get_or xs i x → test x ≡ true → CountsBefore xs k i (suc left) → CountsBefore xs k (i + 1) left
-  passes_one xs k i left x within is passes c =
-      let split : drop i xs ≡ x ∷ drop (i + 1) xs = drop_more xs i x within ∙ ap (λ y. y ∷ drop (i + 1) xs) (sym is) in
-      let more : filter test (drop i xs) ≡ x ∷ filter test (drop (i + 1) xs) = rw (split, passes) refl in
-      let one : without_nth test (suc left) (drop i xs) ≡ x ∷ without_nth test left (drop (i + 1) xs) = rw (split, passes) refl in
-      record {
-        some = omega (arith, c.some, ap length more);
-        nth = ap (λ ys. slice_get ys (suc left)) (sym more) ∙ c.nth;
-        rest = c.rest ∙ ap (λ ys. take i xs ++ ys) one ∙ moved xs i x (without_nth test left (drop (i + 1) xs)) within is;
-      }
-
-  pub CountsBefore-passes : (xs : List X) (k i left left' : ℕ) (x : X) → i < length xs → x ≡ get_or xs i x → test x ≡ true → left ≡ suc left' → CountsBefore xs k i left → CountsBefore xs k (i + 1) left'
-  CountsBefore-passes xs k i left left' x within is passes count c =
-      passes_one xs k i left' x within is passes (subst (λ n. CountsBefore xs k i n) count c)
-
-  -- the element found is the k-th that passes the test, and the others are the rest
-  pub nth_passing : (xs : List X) (k i left : ℕ) (x : X) → i < length xs → x ≡ get_or xs i x → test x ≡ true → left ≡ 0 → CountsBefore xs k i left → slice_get xs i ≡ slice_get (filter test xs) k
-  nth_passing xs k i left x within is passes none c =
-      let split : drop i xs ≡ x ∷ drop (i + 1) xs = drop_more xs i x within ∙ ap (λ y. y ∷ drop (i + 1) xs) (sym is) in
-      let more : filter test (drop i xs) ≡ x ∷ filter test (drop (i + 1) xs) = rw (split, passes) refl in
-      slice_get-get_or xs i x within ∙ ap Some (sym is) ∙ ap (λ ys. slice_get ys 0) (sym more) ∙ ap (slice_get (filter test (drop i xs))) (sym none) ∙ c.nth
-
-  pub without_passing : (xs : List X) (k i left : ℕ) (x : X) → i < length xs → x ≡ get_or xs i x → test x ≡ true → left ≡ 0 → CountsBefore xs k i left → remove xs i ≡ without_nth test k xs
-  without_passing xs k i left x within is passes none c =
-      let split : drop i xs ≡ x ∷ drop (i + 1) xs = drop_more xs i x within ∙ ap (λ y. y ∷ drop (i + 1) xs) (sym is) in
-      let one : without_nth test 0 (drop i xs) ≡ drop (i + 1) xs = rw (split, passes) refl in
-      ap (λ n. take i xs ++ drop n xs) (sym (add-one i)) ∙ sym (c.rest ∙ ap (λ n. take i xs ++ without_nth test n (drop i xs)) none ∙ ap (λ ys. take i xs ++ ys) one)
-
-  -- the k-th is found before the end
-  pub CountsBefore-inside : (xs : List X) (k i left : ℕ) → length xs ≤ i → CountsBefore xs k i left → ⊥
-  CountsBefore-inside xs k i left past c =
-      let none : left < length (filter test []) = subst (λ ys. left < length (filter test ys)) (drop_all i xs past) c.some in
-      omega arith
-
--- the least time of the rest of the dues gives that of all
-pub earliest-start : (dues : List Due) (d : Due) → 0 < length dues → earliest (get_or dues 0 d).time dues ≡ least_time dues
-earliest-start [] d some = absurd (omega arith)
-earliest-start (due ∷ dues) d some = let same : min due.time due.time ≡ due.time = omega arith in ap (λ t. earliest t dues) same
-
--- the dues that promoting leaves are timely
-promoted-timely : (region : Region) (now : ℕ) (due : Due) → IsTimelyAt now due → IsTimelyAt now (promoted_due region now due)
-promoted-timely region now due p =
-    elim (is_due_in region now due) as (λ b. IsTimelyAt now (cond b (record due { region = Active }) due)) [ true ↦ (p.0, λ e. cc) | false ↦ p ]
-
-pub promote-timely : (region : Region) (now : ℕ) (dues : List Due) → All (IsTimelyAt now) dues → All (IsTimelyAt now) (promote region now dues)
-promote-timely region now dues p =
-    All-map (IsTimelyAt now) (promoted_due region now) dues (All-weaker (IsTimelyAt now) (λ due. IsTimelyAt now (promoted_due region now due)) (promoted-timely region now) dues p)
-
-pub settled-timely : (now : ℕ) (dues : List Due) → All (IsTimelyAt now) dues → All (IsTimelyAt now) (settled_dues now dues)
-settled-timely now dues p =
-    elim (list_any (is_active_at now) dues) as (λ b. All (IsTimelyAt now) (cond b dues (cond (list_any (is_due_in Inactive now) dues) (promote Inactive now dues) (promote Nonblocking now dues)))) [
-      | true ↦ p
-      | false ↦ elim (list_any (is_due_in Inactive now) dues) as (λ b. All (IsTimelyAt now) (cond b (promote Inactive now dues) (promote Nonblocking now dues))) [
-        | true ↦ promote-timely Inactive now dues p
-        | false ↦ promote-timely Nonblocking now dues p
-      ]
-    ]
 
 or_false : (a b : Bool) → a || b ≡ false → (a ≡ false) × (b ≡ false)
 or_false true b e = cc
@@ -179,9 +88,3 @@ pub least_time-le : (dues : List Due) → All (λ due. least_time dues ≤ due.t
 least_time-le [] = λ k d below. absurd (omega arith)
 least_time-le (due ∷ dues) =
     All-from_recursion (λ d. earliest due.time dues ≤ d.time) (due ∷ dues) (earliest-le due.time dues, at_least_earliest (earliest due.time dues) due.time dues (omega arith))
-
--- where all are later, going on to the least time keeps the dues timely
-pub advanced-timely : (now : ℕ) (dues : List Due) → All (IsTimelyAt now) dues → All (λ due. now < due.time) dues → All (IsTimelyAt (least_time dues)) dues
-advanced-timely now dues timely later = λ k d below.
-    let time = later k d below in
-    (least_time-le dues k d below, λ inactive. let now_too = (timely k d below).1 inactive in absurd (omega arith))

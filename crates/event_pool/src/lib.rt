@@ -4,12 +4,10 @@
 
 mod agenda;
 mod dues;
-mod list_agenda;
 mod pool;
 #[cfg(test)]
 mod tests;
 
 pub use agenda::{Act, Agenda, Due, Region, Settled};
 pub use dues::Dues;
-pub use list_agenda::ListAgenda;
 pub use pool::Pool;

@@ -1,7 +1,7 @@
-//! The pool against plain lists, and the plain agenda by hand.
+//! The pool against plain lists, and dues in order.
 ghost use Rattle.std.specs.Prelude.{◌≡◌, ◌<◌, length};
 
-use crate::{Act, Agenda, Due, Dues, ListAgenda, Pool, Region, Settled};
+use crate::{Act, Due, Dues, Pool, Region};
 use four_state::{Bit, Vec4};
 use std::alloc::{AllocError, Global};
 use std::process::Abort;
@@ -174,114 +174,6 @@ fn pool_is_as_plain_lists(rt: HostRuntime) -> Result<(), Fail> {
     Ok(())
 }
 
-fn run(time: u64, region: Region, serial: u64) -> Due {
-    Due {
-        time,
-        region,
-        act: Act::Run { serial, key: 0 },
-    }
-}
-
-fn serial_of(due: &Due) -> u64 {
-    match due.act {
-        Act::Run { serial, .. } => serial,
-        _ => 0,
-    }
-}
-
-fn put<A: Agenda>(agenda: &mut A, due: Due) -> bool {
-    let now = agenda.now();
-    if agenda.spare() == 0 || due.time < now {
-        return false;
-    }
-    if due.time > now && due.region == Region::Inactive {
-        return false;
-    }
-    agenda.put(due);
-    true
-}
-
-fn take_first<A: Agenda>(agenda: &mut A) -> Option<u64> {
-    if agenda.active_len() == 0 {
-        return None;
-    }
-    Some(serial_of(&agenda.take()))
-}
-
-fn take_nth<A: Agenda>(agenda: &mut A, k: usize) -> Option<u64> {
-    if k < agenda.active_len() {
-        return Some(serial_of(&agenda.take_nth(k)));
-    }
-    None
-}
-
-fn settle<A: Agenda>(agenda: &mut A) -> Settled {
-    let found = agenda.settle();
-    if agenda.pending() == 0 {
-        return found;
-    }
-    if let Settled::TimeEnds = found {
-        agenda.advance();
-    }
-    found
-}
-
-fn serials<A: Agenda>(alloc: Global, agenda: &A) -> Result<Vec<u64>, AllocError> {
-    let dues = agenda.dues(alloc)?;
-    dues.as_slice()
-        .iter()
-        .map(|due| serial_of(due))
-        .collect(alloc)
-}
-
-fn eight_dues(rt: &impl Abort, alloc: Global) -> Result<ListAgenda, Fail> {
-    let mut agenda = ListAgenda::new(alloc);
-    agenda.reserve(8)?;
-    for (time, region, serial) in [
-        (5, Region::Active, 1),
-        (0, Region::Nonblocking, 2),
-        (0, Region::Inactive, 3),
-        (0, Region::Active, 4),
-        (5, Region::Active, 5),
-        (5, Region::Nonblocking, 6),
-        (0, Region::Active, 7),
-        (u64::MAX, Region::Active, 8),
-    ] {
-        assert!(rt; put(&mut agenda, run(time, region, serial)));
-    }
-    Ok(agenda)
-}
-
-#[test]
-fn dues_are_listed_in_order(rt: HostRuntime) -> Result<(), Fail> {
-    let agenda = eight_dues(&rt, rt.alloc())?;
-    let listed = serials(rt.alloc(), &agenda)?;
-    assert_eq!(rt; listed.as_slice(), [4, 7, 3, 2, 1, 5, 6, 8].as_slice());
-    Ok(())
-}
-
-#[test]
-fn dues_are_taken_in_order(rt: HostRuntime) -> Result<(), Fail> {
-    let mut agenda = eight_dues(&rt, rt.alloc())?;
-    assert_eq!(rt; take_nth(&mut agenda, 1), Some(7));
-    assert_eq!(rt; take_first(&mut agenda), Some(4));
-    assert_eq!(rt; take_first(&mut agenda), None);
-    for (settled, now, serial) in [
-        (Settled::Ready, 0, Some(3)),
-        (Settled::Ready, 0, Some(2)),
-        (Settled::TimeEnds, 5, Some(1)),
-        (Settled::Ready, 5, Some(5)),
-        (Settled::Ready, 5, Some(6)),
-        (Settled::TimeEnds, u64::MAX, Some(8)),
-        (Settled::Empty, u64::MAX, None),
-    ] {
-        assert_eq!(rt; settle(&mut agenda), settled);
-        assert_eq!(rt; agenda.now(), now);
-        assert_eq!(rt; take_first(&mut agenda), serial);
-    }
-    Ok(())
-}
-
 fn late() -> Due {
     Due {
         time: u64::MAX,
@@ -312,5 +204,8 @@ fn dues_keep_their_acts(rt: HostRuntime) -> Result<(), Fail> {
     assert_eq!(rt; dues.as_slice().first().copied(), Some(early()));
     assert_eq!(rt; dues.as_slice().get(1).copied(), Some(late()));
     assert!(rt; Dues::new(rt.alloc()).is_empty());
+    assert!(rt; early().is_in(Region::Nonblocking, u64::MAX - 1));
+    assert!(rt; !early().is_in(Region::Active, u64::MAX - 1));
+    assert_eq!(rt; early().turn(), 3 * u128::from(u64::MAX) - 1);
     Ok(())
 }

@@ -9,7 +9,7 @@ use crate::design::Design;
 use crate::readers::reader_list;
 use crate::slot::Slot;
 use crate::store::Change;
-use event_pool::{Act, Agenda, ListAgenda};
+use event_pool::{Act, Agenda};
 use four_state::Vec4;
 use port_chain::ChainFanout;
 use std::alloc::{AllocError, Global};
@@ -17,6 +17,7 @@ use std::process::Abort;
 use std::test::Fail;
 use strengths::{drive, seen};
 use sym_link::{Program, link, read_statements};
+use time_wheel::Wheel;
 use vvp_lex::statements;
 use vvp_threads::Threads;
 
@@ -189,7 +190,7 @@ fn followed(
     let design = chained(alloc, program)?;
     let mut marks = no_marks(alloc, count)?;
     let mut threads = one_waits(alloc, count as u32, EITHER_EVENT)?;
-    let mut agenda = ListAgenda::new(alloc);
+    let mut agenda = Wheel::new(alloc)?;
     agenda.reserve(count + 1)?;
     follow(
         &design,

@@ -1,20 +1,20 @@
-//! Small runs over the plain agenda, worked out by hand.
+//! Small runs over the time wheel, worked out by hand.
 ghost use Rattle.std.specs.Prelude.{◌≡◌, ◌≤◌, ◌^◌, [], ◌∷◌, length, IfOk, IsTrue, None};
 ghost use Rattle.std.specs.List.{list_all};
 ghost use Rattle.sim_core.specs.Opcodes.{fits};
 
 use crate::{EarlyCode, EarlyOp, EarlyProgram, Ending, Engine, Places, TrapKind, run};
-use event_pool::ListAgenda;
 use four_state::{Bit, Vec4, Widths};
 use std::alloc::{AllocError, Global};
 use std::test::Fail;
+use time_wheel::Wheel;
 use vvp_lex::Bytes;
 
 // What a run came to.
 #[derive(Drop)]
 struct Outcome {
     ending: Option<Ending>,
-    engine: Engine<ListAgenda>,
+    engine: Engine<Wheel>,
 }
 
 // Whether the opcode names none but one of the first `count` variables.
@@ -44,11 +44,7 @@ fn one_width(alloc: Global) -> Result<Widths, AllocError>
 }
 
 // A run that starts, of a program with one variable of two bits.
-fn start(
-    alloc: Global,
-    code: Vec<EarlyOp>,
-    starts: &[u32],
-) -> Result<Engine<ListAgenda>, AllocError>
+fn start(alloc: Global, code: Vec<EarlyOp>, starts: &[u32]) -> Result<Engine<Wheel>, AllocError>
     requires fits { IsTrue (list_all (fits 1) code.items) }
     requires short { length code.items ≤ 2 ^ 20 }
     ensures going { IfOk result (λ engine. engine.machine.ending ≡ None) }
@@ -59,7 +55,7 @@ fn start(
         code: EarlyCode::from_vec(code),
         starts: Places::from_vec(starts.to_vec(alloc)?),
     };
-    Engine::load(alloc, program, ListAgenda::new(alloc))
+    Engine::load(alloc, program, Wheel::new(alloc)?)
 }
 
 // A run that starts; none where its code does not fit.
@@ -67,7 +63,7 @@ fn start_small(
     alloc: Global,
     code: Vec<EarlyOp>,
     starts: &[u32],
-) -> Result<Option<Engine<ListAgenda>>, AllocError> {
+) -> Result<Option<Engine<Wheel>>, AllocError> {
     if code.len() > 100 || !all_fit(&code, 1) {
         return Ok(None);
     }
@@ -75,7 +71,7 @@ fn start_small(
 }
 
 // A step of a run that has done fewer than 100.
-fn next(engine: &mut Engine<ListAgenda>) -> Result<Option<Ending>, AllocError> {
+fn next(engine: &mut Engine<Wheel>) -> Result<Option<Ending>, AllocError> {
     if engine.steps() >= 100 {
         return Err(AllocError);
     }

@@ -1,13 +1,9 @@
-//! The wheel at the ends of its blocks and of time, and beside the plain list.
+//! The wheel by hand, and at the ends of its blocks and of time.
 use crate::Wheel;
-use event_pool::{Act, Agenda, Due, ListAgenda, Region, Settled};
+use event_pool::{Act, Agenda, Due, Region, Settled};
 use std::alloc::{AllocError, Global};
 use std::process::Abort;
 use std::test::Fail;
-
-const REGIONS: [Region; 3] = [Region::Active, Region::Inactive, Region::Nonblocking];
-
-const DELAYS: [u64; 8] = [0, 0, 1, 2, 200, 255, 256, 70_000];
 
 fn run(time: u64, region: Region, serial: u64) -> Due {
     Due {
@@ -53,16 +49,16 @@ fn settle<A: Agenda>(agenda: &mut A) -> Settled {
     found
 }
 
-fn take_first<A: Agenda>(agenda: &mut A) -> Option<Due> {
+fn take_first<A: Agenda>(agenda: &mut A) -> Option<u64> {
     if agenda.active_len() == 0 {
         return None;
     }
-    Some(agenda.take())
+    Some(serial_of(&agenda.take()))
 }
 
-fn take_nth<A: Agenda>(agenda: &mut A, k: usize) -> Option<Due> {
+fn take_nth<A: Agenda>(agenda: &mut A, k: usize) -> Option<u64> {
     if k < agenda.active_len() {
-        return Some(agenda.take_nth(k));
+        return Some(serial_of(&agenda.take_nth(k)));
     }
     None
 }
@@ -71,8 +67,8 @@ fn take_nth<A: Agenda>(agenda: &mut A, k: usize) -> Option<Due> {
 fn next<A: Agenda>(agenda: &mut A) -> Option<(u64, u64)> {
     settle(agenda);
     settle(agenda);
-    let due = take_first(agenda)?;
-    Some((agenda.now(), serial_of(&due)))
+    let serial = take_first(agenda)?;
+    Some((agenda.now(), serial))
 }
 
 #[test]
@@ -138,44 +134,57 @@ fn room_is_the_greater(rt: HostRuntime) -> Result<(), Fail> {
     Ok(())
 }
 
-fn check_same(
-    rt: &impl Abort,
-    alloc: Global,
-    wheel: &Wheel,
-    list: &ListAgenda,
-) -> Result<(), Fail> {
-    assert_eq!(rt; wheel.now(), list.now());
-    assert_eq!(rt; wheel.pending(), list.pending());
-    assert_eq!(rt; wheel.active_len(), list.active_len());
-    assert_eq!(rt; wheel.dues(alloc)?.as_slice(), list.dues(alloc)?.as_slice());
-    Ok(())
+fn serials<A: Agenda>(alloc: Global, agenda: &A) -> Result<Vec<u64>, AllocError> {
+    let dues = agenda.dues(alloc)?;
+    dues.as_slice()
+        .iter()
+        .map(|due| serial_of(due))
+        .collect(alloc)
 }
 
-fn step(rt: &impl Abort, wheel: &mut Wheel, list: &mut ListAgenda, random: u32, serial: u64) {
-    let choice = (random >> 8) as usize % 24;
-    match random >> 29 {
-        0 => assert_eq!(rt; take_nth(wheel, choice % 3), take_nth(list, choice % 3)),
-        1 | 2 => assert_eq!(rt; take_first(wheel), take_first(list)),
-        3 | 4 => assert_eq!(rt; settle(wheel), settle(list)),
-        _ => {
-            let time = wheel.now().saturating_add(DELAYS[choice % 8]);
-            let region = REGIONS[choice / 8];
-            let in_list = put(list, run(time, region, serial));
-            assert_eq!(rt; put(wheel, run(time, region, serial)), in_list);
-        }
+fn eight_dues(rt: &impl Abort, alloc: Global) -> Result<Wheel, Fail> {
+    let mut wheel = empty_wheel(alloc, 8)?;
+    for (time, region, serial) in [
+        (5, Region::Active, 1),
+        (0, Region::Nonblocking, 2),
+        (0, Region::Inactive, 3),
+        (0, Region::Active, 4),
+        (5, Region::Active, 5),
+        (5, Region::Nonblocking, 6),
+        (0, Region::Active, 7),
+        (u64::MAX, Region::Active, 8),
+    ] {
+        assert!(rt; put(&mut wheel, run(time, region, serial)));
     }
+    Ok(wheel)
 }
 
 #[test]
-fn the_wheel_is_as_the_plain_list(rt: HostRuntime) -> Result<(), Fail> {
-    let mut wheel = empty_wheel(rt.alloc(), 40)?;
-    let mut list = ListAgenda::new(rt.alloc());
-    list.reserve(40)?;
-    let mut random: u32 = 1;
-    for serial in 0..2000 {
-        random = random.wrapping_mul(1_664_525).wrapping_add(1_013_904_223);
-        step(&rt, &mut wheel, &mut list, random, serial);
-        check_same(&rt, rt.alloc(), &wheel, &list)?;
+fn dues_are_listed_in_order(rt: HostRuntime) -> Result<(), Fail> {
+    let wheel = eight_dues(&rt, rt.alloc())?;
+    let listed = serials(rt.alloc(), &wheel)?;
+    assert_eq!(rt; listed.as_slice(), [4, 7, 3, 2, 1, 5, 6, 8].as_slice());
+    Ok(())
+}
+
+#[test]
+fn dues_are_taken_in_order(rt: HostRuntime) -> Result<(), Fail> {
+    let mut wheel = eight_dues(&rt, rt.alloc())?;
+    assert_eq!(rt; take_nth(&mut wheel, 1), Some(7));
+    assert_eq!(rt; take_first(&mut wheel), Some(4));
+    assert_eq!(rt; take_first(&mut wheel), None);
+    for (settled, now, serial) in [
+        (Settled::Ready, 0, Some(3)),
+        (Settled::Ready, 0, Some(2)),
+        (Settled::TimeEnds, 5, Some(1)),
+        (Settled::Ready, 5, Some(5)),
+        (Settled::Ready, 5, Some(6)),
+        (Settled::TimeEnds, u64::MAX, Some(8)),
+        (Settled::Empty, u64::MAX, None),
+    ] {
+        assert_eq!(rt; settle(&mut wheel), settled);
+        assert_eq!(rt; wheel.now(), now);
+        assert_eq!(rt; take_first(&mut wheel), serial);
     }
     Ok(())
 }

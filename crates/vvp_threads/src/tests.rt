@@ -7,11 +7,12 @@ ghost use Rattle.vvp_threads.specs.Keyed.{IsKeyOf, IsNamed};
 ghost use Rattle.vvp_threads.specs.Runs.{HasRuns};
 
 use crate::{Frame, NO_SCOPE, Serials, Stack, ThreadState, Threads};
-use event_pool::{Act, Agenda, ListAgenda};
+use event_pool::{Act, Agenda};
 use four_state::{Bit, Vec4};
 use std::alloc::{AllocError, Global};
 use std::process::Abort;
 use std::test::Fail;
+use time_wheel::Wheel;
 
 // What is done. Threads are named by their serials.
 #[derive(Clone, Copy)]
@@ -97,10 +98,10 @@ fn is_child(rt: &impl Abort, threads: &Threads, child: u64, parent: usize) -> bo
 }
 
 // An agenda without dues, with room for a Run of each live thread.
-fn make_agenda(alloc: Global, threads: &Threads) -> Result<ListAgenda, AllocError>
+fn make_agenda(alloc: Global, threads: &Threads) -> Result<Wheel, AllocError>
     ensures { IfOk result (HasRuns threads.now 0) }
 {
-    let mut agenda = ListAgenda::new(alloc);
+    let mut agenda = Wheel::new(alloc)?;
     agenda.reserve(threads.live() as usize)?;
     Ok(agenda)
 }
@@ -146,7 +147,7 @@ fn join(rt: &impl Abort, threads: &mut Threads, serial: u64, child: u64) -> Resu
     Ok(())
 }
 
-fn wake(threads: &mut Threads, agenda: &mut ListAgenda) -> Result<(), AllocError>
+fn wake(threads: &mut Threads, agenda: &mut Wheel) -> Result<(), AllocError>
     requires event { EVENT < length threads.old.table.waiting }
     requires runs { HasRuns threads.old 0 agenda.old }
     ensures events { length threads.new.table.waiting ≡ length threads.old.table.waiting }
@@ -161,7 +162,7 @@ fn end(
     rt: &impl Abort,
     threads: &mut Threads,
     serial: u64,
-    agenda: &mut ListAgenda,
+    agenda: &mut Wheel,
 ) -> Result<(), AllocError>
     requires runs { HasRuns threads.old 0 agenda.old }
     ensures events { length threads.new.table.waiting ≡ length threads.old.table.waiting }
@@ -179,7 +180,7 @@ fn disable(
     scope_parents: &[u32],
     serial: u64,
     scope: u32,
-    agenda: &mut ListAgenda,
+    agenda: &mut Wheel,
 ) -> Result<(), AllocError>
     requires tree { AreScopes scope_parents.now }
     requires scopes { StandIn scope_parents.now threads.old.table.threads }
@@ -198,7 +199,7 @@ fn perform(
     threads: &mut Threads,
     scope_parents: &[u32],
     step: Step,
-    agenda: &mut ListAgenda,
+    agenda: &mut Wheel,
 ) -> Result<(), AllocError>
     requires tree { AreScopes scope_parents.now }
     requires event { EVENT < length threads.old.table.waiting }
@@ -221,7 +222,7 @@ fn perform(
 }
 
 // The serials of the threads that are due to go on.
-fn runs_in(alloc: Global, agenda: &ListAgenda) -> Result<Serials, AllocError> {
+fn runs_in(alloc: Global, agenda: &Wheel) -> Result<Serials, AllocError> {
     let mut runs = Serials::new(alloc);
     for due in agenda.dues(alloc)?.as_slice() {
         if let Act::Run { serial, key: _ } = due.act {
