@@ -1,13 +1,13 @@
 -- What a dump needs, of a program and of a plane.
-use Rattle.std.proofs.Common.{◌≡◌, ℕ, ◌+◌, ◌<◌, ◌≤◌, ◌^◌, Bool, true, false, not, ◌&&◌, Option, Some, None, List, [], ◌∷◌, length, get_or, map, refl, sym, ap, ◌∙◌, subst, arith, inl, inr, suc}
+use Rattle.std.proofs.Common.{◌≡◌, ℕ, ◌+◌, ◌<◌, ◌≤◌, ◌^◌, true, false, Option, Some, None, List, [], ◌∷◌, length, get_or, map, refl, sym, ap, ◌∙◌, subst, arith, inl, inr, suc}
 use Rattle.std.specs.Prelude.{IsTrue, ℤ, ◌⊎◌, ◌≤ℤ◌, pos, negsuc, int_le, nat_lt, slice_get}
-use Rattle.std.specs.List.{All, AllPass, list_all}
+use Rattle.std.specs.List.{AllPass}
 use Rattle.std.specs.Option.{option_map, option_map_or}
 use lib.Signed.{le_z_yes}
 use Rattle.std.proofs.Common.{FitsSigned, w8, to_z, of_z}
 use Rattle.std.proofs.lemmas.Int.{ints, to_z-of_z}
 use Rattle.std.proofs.lemmas.Float.{T_from_true}
-use Rattle.std.proofs.lemmas.Bool.{and_parts, cases_Bool, false≢true, lt-ltb}
+use Rattle.std.proofs.lemmas.Bool.{and_parts, false≢true, lt-ltb}
 use Rattle.std.proofs.lemmas.List.{length-map}
 use Rattle.std.proofs.lemmas.Option.{slice_get-map, slice_get-get_or, slice_get_within, get_or_from_slice_get, same_Some}
 use Rattle.four_state.specs.declared.bits.Bit.{Bit}
@@ -17,16 +17,15 @@ use Rattle.sym_link.specs.declared.program.ItemKind.TheVariants as kind
 use Rattle.sym_link.specs.declared.program.Program.{Program}
 use Rattle.sym_link.specs.declared.program.ScopeRow.{ScopeRow}
 use Rattle.sym_link.specs.declared.program.TheConstants.{NONE}
-use Rattle.sym_link.specs.Sound.{IsItem, IsKind, IsProgram, IsScopeRow, is_root_kind, is_such}
+use Rattle.sym_link.specs.Sound.{IsItem, IsKind, IsProgram, is_root_kind, is_such}
 use Rattle.sym_link.specs.Sound.{width_of as linked_width}
-use Rattle.vcd_write.specs.declared.types.TheConstants.{NO_SCOPE}
-use Rattle.vcd_write.specs.Header.{AreNested, size}
+use Rattle.vcd_write.specs.Header.{AreNested}
 use Rattle.sys_tasks.specs.declared.design.Entry.{Entry}
 use Rattle.sys_tasks.specs.declared.design.EntryKind.{EntryKind}
 use Rattle.sys_tasks.specs.declared.design.EntryKind.TheVariants as entry
 use Rattle.sys_tasks.specs.Arguments.{value_in}
 use Rattle.sys_tasks.specs.Conditions.{Answers, HasWidths, HoldsValues, has_own_value}
-use Rattle.sys_tasks.specs.Design.{entry_kind, entry_of, is_dumpable_kind, root_in, root_of, width_of, words_in}
+use Rattle.sys_tasks.specs.Design.{entry_kind, entry_of, is_dumpable_kind, root_in, width_of, words_in}
 use Rattle.sys_tasks.specs.Dumped.{dump_scope, kind_of}
 use Rattle.sys_tasks.specs.Sound.{CanDump, IsDumpable}
 

@@ -1,13 +1,13 @@
 -- The items of a header, and the values that a dump has of them.
-use Rattle.std.proofs.Common.{◌≡◌, ℕ, ◌+◌, ◌<◌, ◌≤◌, ◌^◌, Bool, true, false, ◌&&◌, Option, Some, None, List, [], ◌∷◌, ◌++◌, length, get_or, take, map, replicate, refl, sym, ap, ◌∙◌, subst, arith, inl, inr, suc}
-use Rattle.std.specs.Prelude.{IsTrue, ℤ, nat_lt, nat_le, slice_get, filter_map}
+use Rattle.std.proofs.Common.{◌≡◌, ℕ, ◌+◌, ◌<◌, ◌≤◌, Bool, true, false, Option, Some, None, List, [], ◌∷◌, ◌++◌, length, get_or, take, map, replicate, refl, sym, ap, ◌∙◌, subst, arith, suc}
+use Rattle.std.specs.Prelude.{IsTrue, ℤ, nat_lt, slice_get, filter_map}
 use Rattle.std.specs.List.{All, list_all}
 use Rattle.std.specs.Option.{option_map, option_map_or}
 use Rattle.std.proofs.lemmas.Bool.{and_parts, false≢true, lt-ltb, ltb-true}
-use Rattle.std.proofs.lemmas.List.{length-map, length-replicate, take_more}
+use Rattle.std.proofs.lemmas.List.{length-replicate, take_more}
 use Rattle.std.proofs.lemmas.List.Elements.{filter_map-append}
 use Rattle.std.proofs.lemmas.List.Sums.{AllPass-from_list_all}
-use Rattle.std.proofs.lemmas.Option.{slice_get-get_or, slice_get_within}
+use Rattle.std.proofs.lemmas.Option.{slice_get_within}
 use Rattle.four_state.specs.declared.bits.Bit.{Bit}
 use Rattle.four_state.specs.declared.bits.Bit.TheVariants.{Unknown}
 use Rattle.sym_link.specs.declared.program.ScopeRow.{ScopeRow}

@@ -1,5 +1,5 @@
 -- The tasks before a run.
-use Rattle.std.proofs.Common.{◌≡◌, ℕ, ◌<◌, ◌≤◌, true, List, [], length, map, refl, sym, ap, ◌∙◌, subst, arith}
+use Rattle.std.proofs.Common.{◌≡◌, ℕ, true, List, [], map, refl, sym, ap, ◌∙◌, subst, arith}
 use Rattle.std.specs.Prelude.{None, ℤ, nat_lt}
 use Rattle.std.specs.List.{AllPass, list_all}
 use Rattle.std.specs.Option.{option_map_or}

@@ -7,9 +7,8 @@ use Rattle.vvp_ops.specs.declared.op.Op.{Op}
 use Rattle.sys_tasks.specs.declared.names.Task.{Task}
 use Rattle.sys_tasks.specs.declared.names.Task.TheVariants as task
 use Rattle.sys_tasks.specs.declared.state.Call.{Call}
-use Rattle.sys_tasks.specs.Dumped.{dumped_values}
 use Rattle.sys_tasks.specs.Names.{task_of}
-use Rattle.sys_tasks.specs.Phase.{dumped, monitored, monitored_by, read_only, same_values, strobed, watched_now, with_header, with_phase}
+use Rattle.sys_tasks.specs.Phase.{dumped, monitored, monitored_by, read_only, same_values, strobed, watched_now}
 use Rattle.sys_tasks.specs.Tasks.{TasksNow, called, called_name, does}
 
 does-design : (t : Task) (call : Call) (now : ℕ) (words : ℕ → List (List Bit)) (tasks : TasksNow) → (does t call now words tasks).design ≡ tasks.design

@@ -1,5 +1,5 @@
 -- A small program that the tests run: a scope of a thousand ticks a unit, a variable of one bit and one of four.
-use Rattle.std.specs.Prelude.{ℕ, zero, suc, pos, negsuc, true, false, List, [], ◌∷◌, codes}
+use Rattle.std.specs.Prelude.{ℕ, zero, suc, pos, negsuc, false, List, [], ◌∷◌, codes}
 use Rattle.four_state.specs.declared.bits.Bit.{Bit}
 use Rattle.vvp_forms.specs.declared.form.ScopeKind.TheVariants.{Module}
 use Rattle.sym_link.specs.declared.program.Item.{Item}

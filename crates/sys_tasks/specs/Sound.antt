@@ -1,5 +1,5 @@
 -- What holds of the tasks between calls.
-use Rattle.std.specs.Prelude.{◌≡◌, ℕ, ◌+◌, ◌<◌, ◌≤◌, ◌^◌, ◌≤ℤ◌, ℤ, pos, negsuc, IsTrue, Bool, true, nat_lt, ◌&&◌, Option, Some, None, List, length, map, slice_get}
+use Rattle.std.specs.Prelude.{◌≡◌, ℕ, ◌<◌, ◌≤◌, ◌≤ℤ◌, ℤ, pos, negsuc, IsTrue, Bool, true, nat_lt, ◌&&◌, Option, Some, None, List, length, map, slice_get}
 use Rattle.std.specs.List.{list_all}
 use Rattle.std.specs.Option.{option_map_or}
 use Rattle.four_state.specs.declared.bits.Bit.{Bit}

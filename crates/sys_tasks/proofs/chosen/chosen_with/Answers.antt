@@ -1,4 +1,4 @@
-use Rattle.std.proofs.Common.{◌≡◌, length, ap, ◌∙◌, sym, arith}
+use Rattle.std.proofs.Common.{length, ap, ◌∙◌, sym, arith}
 use Rattle.std.proofs.lemmas.List.FromFn.{length-map-range_with_len}
 use Rattle.sys_tasks.proofs.ChosenLemmas.{all-taken, is_taken, mark-is, or-first, or-none, or-second, passed-next, taken-next}
 use Rattle.sys_tasks.proofs.chosen.chosen_with.Goals as goal

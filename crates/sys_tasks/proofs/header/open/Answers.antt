@@ -1,4 +1,4 @@
-use Rattle.std.proofs.Common.{◌≡◌, List, length, map, ap, ◌∙◌, sym, arith}
+use Rattle.std.proofs.Common.{length, map, ap, ◌∙◌, arith}
 use Rattle.std.proofs.lemmas.List.{length-map}
 use Rattle.sys_tasks.specs.Design.{width_of}
 use Rattle.sys_tasks.specs.Dumped.{dump_scope}

@@ -1,4 +1,4 @@
-use Rattle.std.proofs.Common.{◌≡◌, ◌∙◌, refl, sym, ap}
+use Rattle.std.proofs.Common.{◌∙◌, sym, ap}
 use Rattle.std.proofs.lemmas.Result.{err_from_is_err_and, on_ok_weaker}
 use Rattle.sys_tasks.specs.Tasks.{TasksNow}
 use Rattle.sys_tasks.proofs.PhaseLemmas.{begun-holds, begun-widths, headed, headed-part, later-part, none-part, on_err_both, undumped, unheaded}
