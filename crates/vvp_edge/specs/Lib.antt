@@ -5,3 +5,4 @@ pub mod Counts
 pub mod MemorySink
 pub mod MemoryStore
 pub mod System
+pub mod Honest

@@ -1,12 +1,13 @@
 //! The outside: where bytes come from and where they go. A sink takes bytes, and a store has files
 //! by their names. Each counts its failed calls, and tells what it holds where it can, so that the
 //! layers above say exactly which bytes they read and wrote. `MemSink` and `MemStore` stand in
-//! memory and fail where they are told to. `OutSink` and `DirStore` reach the system, and tell
-//! nothing of its bytes.
+//! memory and fail where they are told to. `HonestSink` and `HonestStore` never fail. `OutSink` and
+//! `DirStore` reach the system, and tell nothing of its bytes.
 #![tactic(auto)]
 
 mod calls;
 mod dir_store;
+mod honest;
 mod mem_files;
 mod mem_sink;
 mod mem_store;
@@ -18,6 +19,7 @@ mod tests;
 
 pub use calls::CallKind;
 pub use dir_store::DirStore;
+pub use honest::{HonestSink, HonestStore};
 pub use mem_sink::MemSink;
 pub use mem_store::MemStore;
 pub use out_sink::OutSink;

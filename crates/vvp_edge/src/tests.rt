@@ -2,8 +2,8 @@
 ghost use Rattle.std.specs.Prelude.{None, false};
 
 use crate::{
-    CallKind, DirStore, Failed, MOST_SOURCE, MemSink, MemStore, OutSink, ReadFault, Sink, Store,
-    append_all, read_source, send_all,
+    CallKind, DirStore, Failed, HonestSink, HonestStore, MOST_SOURCE, MemSink, MemStore, OutSink,
+    ReadFault, Sink, Store, append_all, read_source, send_all,
 };
 use std::alloc::{AllocError, Global};
 use std::fs;
@@ -203,6 +203,22 @@ fn store_failures(rt: HostRuntime) -> Result<(), Fail> {
             "{kind:?}"
         );
     }
+    Ok(())
+}
+
+// A sink that never fails takes all, and a store that never fails has its file alone and takes what is written.
+#[test]
+fn honest_ones(rt: HostRuntime) -> Result<(), Fail> {
+    assert!(rt; sends(&mut HonestSink::new(), b"Hello, World"));
+    let mut store = HonestStore::new(b"in", b"its bytes");
+    assert_eq!(rt; opens(&mut store, b"out"), Ok(false));
+    for _ in 0..2 {
+        let text = reads(rt.alloc(), &mut store, b"in")?;
+        assert_eq!(rt; text.as_slice(), b"its bytes".as_slice());
+    }
+    assert_eq!(rt; makes(&mut store, b"out", ["a", "", "b"]), [true; 3]);
+    let text = reads(rt.alloc(), &mut store, b"in")?;
+    assert_eq!(rt; text.as_slice(), b"its bytes".as_slice());
     Ok(())
 }
 
