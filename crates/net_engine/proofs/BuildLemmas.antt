@@ -1,7 +1,9 @@
 -- The values of a program before anything has happened.
-use Rattle.std.proofs.Common.{◌≡◌, ℕ, zero, suc, ◌+◌, ◌<◌, Option, Some, None, List, [], ◌∷◌, ◌++◌, length, map, set, get_or, take, drop, replicate, slice_get, refl, sym, ap, subst, ◌∙◌}
+use Rattle.std.proofs.Common.{◌≡◌, ℕ, zero, suc, ◌+◌, ◌<◌, Option, Some, None, List, [], ◌∷◌, ◌++◌, length, map, set, get_or, take, drop, replicate, slice_get, refl, sym, ap, subst, ◌∙◌, arith}
+use Rattle.std.specs.List.{All}
 use Rattle.std.specs.Option.{option_map}
-use Rattle.std.proofs.lemmas.List.{length-map, length-replicate}
+use Rattle.std.proofs.lemmas.List.{length-map, length-replicate, length-append, map-append, take_more}
+use Rattle.std.proofs.lemmas.List.Elements.{All-nil, All-cons, All-append}
 use Rattle.std.proofs.lemmas.Option.{get_or_from_slice_get}
 use Rattle.four_state.specs.declared.bits.Bit.{Bit}
 use Rattle.four_state.specs.declared.bits.Bit.TheVariants.{Unknown}
@@ -10,10 +12,11 @@ use Rattle.sym_link.specs.declared.program.Item.{Item}
 use Rattle.sym_link.specs.declared.program.ItemKind.{ItemKind}
 use Rattle.sym_link.specs.declared.program.ItemKind.TheVariants.{Var, Net, Functor, Delay, Edge, Named, AnyOf, Array, Scope, Param}
 use Rattle.sym_link.specs.Roots.{Node, node_of}
-use Rattle.net_engine.specs.Net.{NetValues, Request, first_driven, first_driven_by, first_forced, first_words, first_values}
-use Rattle.net_engine.specs.Slots.{Held, driven_in, forced_in, place_in}
-use Rattle.net_engine.specs.Built.{first_levels, first_slot, held_of, events_of, IsListing}
+use Rattle.net_engine.specs.Net.{NetValues, Request, seen, first_driven, first_driven_by, first_forced, first_words, first_values}
+use Rattle.net_engine.specs.Slots.{Held, driven_in, forced_in, place_in, HasPlaces, SlotNow, held_in, helds, KeepsValue, IsKept}
+use Rattle.net_engine.specs.Built.{first_levels, first_slot, first_place, IsFirst, held_of, events_of, IsListing}
 use Rattle.net_engine.proofs.MixLemmas.{mixed, mixed-more, map-get, read-at}
+use Rattle.net_engine.proofs.SlotLemmas.{shown-quiet, none-forced, unforced}
 use Rattle.net_engine.proofs.ListLemmas.{AreListed, listed-more}
 use Rattle.net_engine.proofs.StepLemmas.{refilled}
 use Rattle.net_engine.proofs.StoreLemmas.{stored}
@@ -78,30 +81,104 @@ widths-unknown : (widths : List ℕ) → map length (map (λ (width : ℕ). repl
 widths-unknown [] = refl
 widths-unknown (width ∷ widths) = ap (λ (w : ℕ). w ∷ map length (map (λ (n : ℕ). replicate n Unknown) widths)) (length-replicate width Unknown) ∙ ap (λ (ws : List ℕ). width ∷ ws) (widths-unknown widths)
 
--- the width of each slot's place
-abbrev pub place_sizes : List (Option Held) → List ℕ
-place_sizes slots = map (λ slot. length (place_in slot)) slots
+pub plane-start : (places : List (List Bit)) (widths lent : List ℕ) (plane : List (List Bit)) → widths ≡ map length places → lent ≡ widths → plane ≡ map (λ (width : ℕ). replicate width Unknown) lent → map length plane ≡ map length places
+plane-start places widths lent plane are same is = ap (map length) is ∙ widths-unknown lent ∙ same ∙ are
 
-pub plane-start : (slots : List (Option Held)) (widths lent : List ℕ) (plane : List (List Bit)) → widths ≡ place_sizes slots → lent ≡ widths → plane ≡ map (λ (width : ℕ). replicate width Unknown) lent → map length plane ≡ place_sizes slots
-plane-start slots widths lent plane are same is = ap (map length) is ∙ widths-unknown lent ∙ same ∙ are
-
-pub plane-place : (slots : List (Option Held)) (plane : List (List Bit)) (i : ℕ) (slot : Option Held) (bits : List Bit) → map length plane ≡ place_sizes slots → i < length slots → slot ≡ get_or slots i slot → bits ≡ place_in slot → length bits ≡ length (get_or plane i [])
-plane-place slots plane i slot bits widths inside read is =
-    let at : slice_get (place_sizes slots) i ≡ Some (length (place_in slot)) = map-get (λ s. length (place_in s)) slots i slot (read-at slots i slot inside read) in
-    ap length is ∙ sym (get_or_from_slice_get (place_sizes slots) i (length (place_in slot)) 0 at) ∙ ap (λ (ws : List ℕ). get_or ws i 0) (sym widths) ∙ lengths plane i
+pub plane-place : (places plane : List (List Bit)) (i : ℕ) (place bits : List Bit) → map length plane ≡ map length places → slice_get places i ≡ Some place → bits ≡ place → length bits ≡ length (get_or plane i [])
+plane-place places plane i place bits widths at is =
+    ap length is ∙ sym (get_or_from_slice_get (map length places) i (length place) 0 (map-get length places i place at)) ∙ ap (λ (ws : List ℕ). get_or ws i 0) (sym widths) ∙ lengths plane i
   where
     lengths : (ps : List (List Bit)) (k : ℕ) → get_or (map length ps) k 0 ≡ length (get_or ps k [])
     lengths [] k = refl
     lengths (p ∷ ps) zero = refl
     lengths (p ∷ ps) (suc k) = lengths ps k
 
-pub plane-more : (slots : List (Option Held)) (start plane new : List (List Bit)) (i : ℕ) (slot : Option Held) (bits : List Bit) → map length start ≡ place_sizes slots → i < length slots → slot ≡ get_or slots i slot → bits ≡ place_in slot
-    → plane ≡ mixed (map place_in slots) start i → new ≡ set plane i bits → new ≡ mixed (map place_in slots) start (i + 1)
-plane-more slots start plane new i slot bits widths inside read is before set_is =
-    let many : length (map place_in slots) ≡ length start =
-    length-map slots place_in ∙ sym (length-map slots (λ s. length (place_in s))) ∙ sym (ap length widths) ∙ length-map start length in
-    set_is ∙ ap (λ ps. set ps i bits) before ∙ ap (λ (b : List Bit). set (mixed (map place_in slots) start i) i b) is
-    ∙ mixed-more (map place_in slots) start i (place_in slot) many (map-get place_in slots i slot (read-at slots i slot inside read))
+pub plane-more : (places start plane new : List (List Bit)) (i : ℕ) (place bits : List Bit) → map length start ≡ map length places → slice_get places i ≡ Some place → bits ≡ place
+    → plane ≡ mixed places start i → new ≡ set plane i bits → new ≡ mixed places start (i + 1)
+plane-more places start plane new i place bits widths at is before set_is =
+    let many : length places ≡ length start = sym (length-map places length) ∙ sym (ap length widths) ∙ length-map start length in
+    set_is ∙ ap (λ ps. set ps i bits) before ∙ ap (λ (b : List Bit). set (mixed places start i) i b) is ∙ mixed-more places start i place many at
+
+-- the bits that an item begins with
+pub place-at : (items : List Item) (i : ℕ) (item : Item) → i < length items → item ≡ get_or items i item → slice_get (map first_place (map node_of items)) i ≡ Some (first_place (node_of item))
+place-at items i item inside read = map-get first_place (map node_of items) i (node_of item) (map-get node_of items i item (read-at items i item inside read))
+
+pub place-some : (node : Node) (levels : List Interval) → first_levels node node.what ≡ Some levels → seen levels ≡ first_place node
+place-some node levels is =
+    ap seen (shown-quiet (unforced levels) levels (sym (none-forced levels))) ∙ sym (ap (λ (o : Option (List Interval)). place_in (option_map held_of o)) is)
+
+pub place-none : (node : Node) → first_levels node node.what ≡ None → Unknown ∷ [] ≡ first_place node
+place-none node is = sym (ap (λ (o : Option (List Interval)). place_in (option_map held_of o)) is)
+
+-- ---- slots with the plane
+
+pub first-some : (node : Node) (levels : List Interval) (slot : SlotNow) → first_levels node node.what ≡ Some levels → KeepsValue slot (held_of levels) → IsFirst (Some slot) node
+first-some node levels slot is keeps =
+    subst (λ (o : Option (List Interval)). held_in (Some slot, place_in (option_map held_of o)) ≡ option_map held_of o) (sym is) (ap (λ (h : Held). Some h) keeps)
+
+pub first-none : (node : Node) → first_levels node node.what ≡ None → IsFirst None node
+first-none node is = subst (λ (o : Option (List Interval)). held_in (None, place_in (option_map held_of o)) ≡ option_map held_of o) (sym is) refl
+
+pub first-places : (node : Node) (levels : List Interval) → first_levels node node.what ≡ Some levels → HasPlaces (Some (held_of levels)) → HasPlaces (first_slot node)
+first-places node levels is places = subst (λ (o : Option (List Interval)). HasPlaces (option_map held_of o)) (sym is) places
+
+pub no-places : (node : Node) → first_levels node node.what ≡ None → HasPlaces (first_slot node)
+no-places node is = subst (λ (o : Option (List Interval)). HasPlaces (option_map held_of o)) (sym is) tt
+
+helds-more : (slots : List (Option SlotNow)) (plane : List (List Bit)) (slot : Option SlotNow) (bits : List Bit) → length slots ≡ length plane → helds (slots ++ slot ∷ []) (plane ++ bits ∷ []) ≡ helds slots plane ++ held_in (slot, bits) ∷ []
+helds-more [] [] slot bits same = refl
+helds-more [] (p ∷ plane) slot bits same = cc
+helds-more (s ∷ slots) [] slot bits same = cc
+helds-more (s ∷ slots) (p ∷ plane) slot bits same = ap (λ rest. held_in (s, p) ∷ rest) (helds-more slots plane slot bits (omega (arith, same)))
+
+-- so many slots of the front of some items
+pub record AreFirst (items : List Item) (slots : List (Option SlotNow)) : Type 0 where
+  pub count : length slots ≡ length items
+  pub values : helds slots (map first_place (map node_of items)) ≡ map first_slot (map node_of items)
+  pub places : All HasPlaces (map first_slot (map node_of items))
+
+first-more : (items : List Item) (slots : List (Option SlotNow)) (item : Item) (slot : Option SlotNow) → AreFirst items slots → IsFirst slot (node_of item) → HasPlaces (first_slot (node_of item)) → AreFirst (items ++ item ∷ []) (slots ++ slot ∷ [])
+first-more items slots item slot are is places =
+    let nodes : map node_of (items ++ item ∷ []) ≡ map node_of items ++ node_of item ∷ [] = map-append node_of items (item ∷ []) in
+    let firsts : map first_slot (map node_of (items ++ item ∷ [])) ≡ map first_slot (map node_of items) ++ first_slot (node_of item) ∷ [] = ap (map first_slot) nodes ∙ map-append first_slot (map node_of items) (node_of item ∷ []) in
+    let bits : map first_place (map node_of (items ++ item ∷ [])) ≡ map first_place (map node_of items) ++ first_place (node_of item) ∷ [] = ap (map first_place) nodes ∙ map-append first_place (map node_of items) (node_of item ∷ []) in
+    let long : length slots ≡ length (map first_place (map node_of items)) = are.count ∙ sym (length-map (map node_of items) first_place ∙ length-map items node_of) in
+    record {
+      count = (let a = length-append slots (slot ∷ []) in let b = length-append items (item ∷ []) in let c = are.count in omega (arith, a, b, c));
+      values = ap (helds (slots ++ slot ∷ [])) bits ∙ helds-more slots (map first_place (map node_of items)) slot (first_place (node_of item)) long
+          ∙ ap (λ rest. rest ++ held_in (slot, first_place (node_of item)) ∷ []) are.values ∙ ap (λ (h : Option Held). map first_slot (map node_of items) ++ h ∷ []) is ∙ sym firsts;
+      places = subst (All HasPlaces) (sym firsts) (All-append HasPlaces (map first_slot (map node_of items)) (first_slot (node_of item) ∷ []) are.places (All-cons HasPlaces (first_slot (node_of item)) [] places (All-nil HasPlaces)));
+    }
+
+pub slots-more : (items : List Item) (slots new : List (Option SlotNow)) (i : ℕ) (item : Item) (slot : Option SlotNow) → AreFirst (take i items) slots → i < length items → item ≡ get_or items i item → new ≡ slots ++ slot ∷ [] → IsFirst slot (node_of item)
+    → HasPlaces (first_slot (node_of item)) → AreFirst (take (i + 1) items) new
+slots-more items slots new i item slot are inside read pushed is places =
+    subst (λ (ss : List (Option SlotNow)). AreFirst (take (i + 1) items) ss) (sym pushed)
+    (subst (λ (xs : List Item). AreFirst xs (slots ++ slot ∷ [])) (sym (take_more items i item inside ∙ ap (λ (x : Item). take i items ++ x ∷ []) (sym read))) (first-more (take i items) slots item slot are is places))
+
+-- what a store begins with
+pub first-helds : (nodes : List Node) (slots : List (Option SlotNow)) (plane : List (List Bit)) → plane ≡ map first_place nodes → helds slots (map first_place nodes) ≡ map first_slot nodes → helds slots plane ≡ map first_slot nodes
+first-helds nodes slots plane is values = ap (helds slots) is ∙ values
+
+pub first-kept : (nodes : List Node) (slots : List (Option SlotNow)) (plane : List (List Bit)) → plane ≡ map first_place nodes → length slots ≡ length nodes → helds slots (map first_place nodes) ≡ map first_slot nodes → All HasPlaces (map first_slot nodes) → IsKept slots plane
+first-kept nodes slots plane is many values places =
+    let all = first-helds nodes slots plane is values in
+    record {
+      places = ap length is ∙ length-map nodes first_place ∙ sym many;
+      stored = record { shown = is ∙ shown nodes ∙ ap (map place_in) (sym all); sized = subst (All HasPlaces) (sym all) places };
+    }
+  where
+    shown : (ns : List Node) → map first_place ns ≡ map place_in (map first_slot ns)
+    shown [] = refl
+    shown (n ∷ ns) = ap (λ rest. first_place n ∷ rest) (shown ns)
+
+-- the same of items that were lent
+pub built-kept : (items lent : List Item) (slots : List (Option SlotNow)) (plane : List (List Bit)) → lent ≡ items → plane ≡ map first_place (map node_of lent) → length slots ≡ length lent
+    → helds slots (map first_place (map node_of lent)) ≡ map first_slot (map node_of lent) → All HasPlaces (map first_slot (map node_of lent)) → IsKept slots plane × (helds slots plane ≡ map first_slot (map node_of items))
+built-kept items lent slots plane same is many values places = (
+  first-kept (map node_of lent) slots plane is (many ∙ sym (length-map lent node_of)) values places,
+  first-helds (map node_of lent) slots plane is values ∙ ap (λ (xs : List Item). map first_slot (map node_of xs)) same,
+)
 
 -- ---- lists of events
 

@@ -12,6 +12,7 @@ pub mod WideLemmas
 pub mod NetLemmas
 pub mod ReadLemmas
 pub mod FollowLemmas
+pub mod StrongLemmas
 pub mod SlotLemmas
 pub mod EdgeLemmas
 pub mod SoundLemmas
@@ -20,6 +21,7 @@ pub mod OutputLemmas
 pub mod TimeLemmas
 pub mod BoundLemmas
 pub mod StepLemmas
+pub mod PlainLemmas
 pub mod CallLemmas
 pub mod BuildLemmas
 pub mod TestLemmas

@@ -1,14 +1,17 @@
 -- What a gate of the design drives.
-use Rattle.std.proofs.Common.{◌≡◌, ℕ, ◌≤◌, Option, Some, None, List, [], ◌∷◌, length, map, slice_get, sym, ap, subst, ◌∙◌}
+use Rattle.std.proofs.Common.{◌≡◌, ℕ, ◌≤◌, true, Option, Some, None, List, [], ◌∷◌, length, map, slice_get, refl, sym, ap, subst, ◌∙◌, arith}
 use Rattle.std.specs.Prelude.{IfSome}
 use Rattle.std.specs.List.{All}
 use Rattle.std.specs.Option.{option_map}
 use Rattle.std.proofs.lemmas.List.Elements.{All-nil, All-cons, All-head, All-tail}
 use Rattle.vvp_forms.specs.declared.form.Gate.{Gate}
-use Rattle.gate_rules.specs.Ports.{widths}
+use Rattle.four_state.specs.declared.bits.Bit.{Bit}
+use Rattle.gate_rules.specs.Ports.{widths, seen_ports, driven_ports}
 use Rattle.gate_rules.specs.Evaluable.{IsEvaluable}
 use Rattle.gate_rules.specs.Output.{output}
+use Rattle.gate_rules.specs.Strong.{looks}
 use Rattle.strengths.specs.Interval.{Interval}
+use Rattle.strengths.specs.Level.{driven}
 use Rattle.sym_link.specs.declared.program.Program.{Program}
 use Rattle.sym_link.specs.declared.program.Item.{Item}
 use Rattle.sym_link.specs.declared.program.ItemKind.{ItemKind}
@@ -16,18 +19,19 @@ use Rattle.sym_link.specs.declared.program.ItemKind.TheVariants.{Functor}
 use Rattle.sym_link.specs.declared.program.Source.{Source}
 use Rattle.sym_link.specs.Roots.{Node, nodes_of}
 use Rattle.sym_link.specs.Sound.{IsProgram, IsKind}
-use Rattle.net_engine.specs.Net.{NetValues, at_source, output_of}
+use Rattle.net_engine.specs.Net.{NetValues, at_source, strongly, output_of}
 use Rattle.net_engine.specs.Parts.{AreWide, AreShowing, IsLinked}
 use Rattle.net_engine.proofs.LinkedLemmas.{item-at, item-sound}
+use Rattle.net_engine.proofs.StrongLemmas.{widths-seen, looks-output}
 use Rattle.net_engine.proofs.GateLemmas.{offered, Least, evaluable, ports-showing}
 
--- each port that has levels has one at least
-least-widths : (levels : List (Option (List Interval))) → All (λ port. IfSome port (λ ls. 1 ≤ length ls)) levels → All Least (map (option_map length) levels)
-least-widths [] h = All-nil Least
-least-widths (None ∷ levels) h = All-cons Least None (map (option_map length) levels) tt (least-widths levels (All-tail (λ (port : Option (List Interval)). IfSome port (λ ls. 1 ≤ length ls)) None levels h))
-least-widths (Some ls ∷ levels) h =
-    All-cons Least (Some (length ls)) (map (option_map length) levels) (All-head (λ (port : Option (List Interval)). IfSome port (λ ls. 1 ≤ length ls)) (Some ls) levels h)
-    (least-widths levels (All-tail (λ (port : Option (List Interval)). IfSome port (λ ls. 1 ≤ length ls)) (Some ls) levels h))
+-- each port that has places has one at least
+least-widths : {X : Type 0} (ports : List (Option (List X))) → All (λ port. IfSome port (λ places. 1 ≤ length places)) ports → All Least (map (option_map length) ports)
+least-widths {X} [] h = All-nil Least
+least-widths {X} (None ∷ ports) h = All-cons Least None (map (option_map length) ports) tt (least-widths ports (All-tail (λ (port : Option (List X)). IfSome port (λ places. 1 ≤ length places)) None ports h))
+least-widths {X} (Some places ∷ ports) h =
+    All-cons Least (Some (length places)) (map (option_map length) ports) (All-head (λ (port : Option (List X)). IfSome port (λ ps. 1 ≤ length ps)) (Some places) ports h)
+    (least-widths ports (All-tail (λ (port : Option (List X)). IfSome port (λ ps. 1 ≤ length ps)) (Some places) ports h))
 
 -- a gate's item of a program
 gate-item : (program : Program) (k : ℕ) (node : Node) (kind : Gate) (drive : ℕ × ℕ) (ports : List Source) → IsProgram program → slice_get (nodes_of program) k ≡ Some node → node.what ≡ Functor kind drive ports
@@ -45,17 +49,30 @@ gate-showing nodes values k node kind drive ports linked wide at is =
     let showing = ports-showing program values found.0 kind drive ports linked.linked (subst (λ (ns : List Node). AreWide ns values) (sym linked.same) wide) found.1 in
     subst (λ (ns : List Node). AreShowing ns values ports) linked.same showing.0
 
+gate-fits : (nodes : List Node) (values : NetValues) (k : ℕ) (node : Node) (kind : Gate) (drive : ℕ × ℕ) (ports : List Source) (width : ℕ) (wide : List (Option ℕ)) → IsLinked nodes → AreWide nodes values
+    → slice_get nodes k ≡ Some node → node.what ≡ Functor kind drive ports → width ≡ node.width → wide ≡ widths (map (at_source nodes values) ports) → All Least wide → IsEvaluable kind width drive.0 drive.1 wide
+gate-fits nodes values k node kind drive ports width wide linked sized at is wide_as shown least =
+    let program = linked.program in
+    let found = gate-item program k node kind drive ports linked.linked (ap (λ (ns : List Node). slice_get ns k) linked.same ∙ at) is in
+    let showing = ports-showing program values found.0 kind drive ports linked.linked (subst (λ (ns : List Node). AreWide ns values) (sym linked.same) sized) found.1 in
+    let same : wide ≡ map (offered program.items) ports =
+    shown ∙ ap (λ (ns : List Node). widths (map (at_source ns values) ports)) (sym linked.same) ∙ showing.1 in
+    let can = evaluable program found.0 kind drive ports found.1 (subst (All Least) same least) in
+    subst (λ (ws : List (Option ℕ)). IsEvaluable kind width drive.0 drive.1 ws) (sym same) (subst (λ (w : ℕ). IsEvaluable kind w drive.0 drive.1 (map (offered program.items) ports)) (found.2 ∙ sym wide_as) can)
+
 pub gate-evaluable : (nodes : List Node) (values : NetValues) (k : ℕ) (node : Node) (kind : Gate) (drive : ℕ × ℕ) (ports : List Source) (width : ℕ) (levels : List (Option (List Interval))) → IsLinked nodes → AreWide nodes values
     → slice_get nodes k ≡ Some node → node.what ≡ Functor kind drive ports → width ≡ node.width → levels ≡ map (at_source nodes values) ports → All (λ port. IfSome port (λ ls. 1 ≤ length ls)) levels
     → IsEvaluable kind width drive.0 drive.1 (widths levels)
 gate-evaluable nodes values k node kind drive ports width levels linked wide at is wide_as shown least =
-    let program = linked.program in
-    let found = gate-item program k node kind drive ports linked.linked (ap (λ (ns : List Node). slice_get ns k) linked.same ∙ at) is in
-    let showing = ports-showing program values found.0 kind drive ports linked.linked (subst (λ (ns : List Node). AreWide ns values) (sym linked.same) wide) found.1 in
-    let same : widths levels ≡ map (offered program.items) ports =
-    ap widths (shown ∙ ap (λ (ns : List Node). map (at_source ns values) ports) (sym linked.same)) ∙ showing.1 in
-    let can = evaluable program found.0 kind drive ports found.1 (subst (All Least) same (least-widths levels least)) in
-    subst (λ (ws : List (Option ℕ)). IsEvaluable kind width drive.0 drive.1 ws) (sym same) (subst (λ (w : ℕ). IsEvaluable kind w drive.0 drive.1 (map (offered program.items) ports)) (found.2 ∙ sym wide_as) can)
+    gate-fits nodes values k node kind drive ports width (widths levels) linked wide at is wide_as (ap widths shown) (least-widths levels least)
+
+-- the same by bits, for strong drivers
+pub bits-evaluable : (nodes : List Node) (values : NetValues) (k : ℕ) (node : Node) (kind : Gate) (drive : ℕ × ℕ) (ports : List Source) (width : ℕ) (bits : List (Option (List Bit))) → IsLinked nodes → AreWide nodes values
+    → slice_get nodes k ≡ Some node → node.what ≡ Functor kind drive ports → width ≡ node.width → bits ≡ seen_ports (map (at_source nodes values) ports) → All (λ port. IfSome port (λ bs. 1 ≤ length bs)) bits
+    → IsEvaluable kind width 6 6 (widths bits)
+bits-evaluable nodes values k node kind drive ports width bits linked wide at is wide_as shown least =
+    let can = gate-fits nodes values k node kind drive ports width (widths bits) linked wide at is wide_as (ap widths shown ∙ widths-seen (map (at_source nodes values) ports)) (least-widths bits least) in
+    record { least = can.least; most = can.most; zero_strength = omega arith; one_strength = omega arith; four = can.four; fits = can.fits }
 
 pub gate-output : (nodes : List Node) (values : NetValues) (node : Node) (kind : Gate) (drive : ℕ × ℕ) (ports : List Source) (width : ℕ) (levels : List (Option (List Interval))) (result : List Interval) → node.what ≡ Functor kind drive ports → width ≡ node.width
     → levels ≡ map (at_source nodes values) ports → result ≡ output kind width drive.0 drive.1 levels → result ≡ output_of nodes values node
@@ -63,3 +80,10 @@ unfolding output_of
 gate-output nodes values node kind drive ports width levels result is wide_as shown gives =
     gives ∙ ap (λ (w : ℕ). output kind w drive.0 drive.1 levels) wide_as ∙ ap (λ (ls : List (Option (List Interval))). output kind node.width drive.0 drive.1 ls) shown
     ∙ ap (λ (what : ItemKind). output_of nodes values (record node { what = what })) (sym is)
+
+-- the same by bits
+pub bits-output : (nodes : List Node) (values : NetValues) (node : Node) (kind : Gate) (drive : ℕ × ℕ) (ports : List Source) (width : ℕ) (bits : List (Option (List Bit))) (result : List Bit) → node.what ≡ Functor kind drive ports → width ≡ node.width
+    → bits ≡ seen_ports (map (at_source nodes values) ports) → looks kind ≡ true → output kind width drive.0 drive.1 (driven_ports 6 6 bits) ≡ map (driven 6 6) result → strongly result ≡ output_of nodes values node
+bits-output nodes values node kind drive ports width bits result is wide_as shown look gives =
+    gate-output nodes values node kind drive ports width (map (at_source nodes values) ports) (strongly result) is wide_as refl
+    (looks-output kind width drive.0 drive.1 (map (at_source nodes values) ports) bits result look shown gives)

@@ -1,14 +1,17 @@
 -- Loops over the places of an item.
-use Rattle.std.proofs.Common.{◌≡◌, ℕ, ◌+◌, ◌<◌, ◌≤◌, pos, Bool, true, false, Option, Some, None, List, [], ◌∷◌, ◌++◌, length, map, set, get_or, take, drop, replicate, slice_get, refl, sym, ap, ◌∙◌, arith}
+use Rattle.std.proofs.Common.{◌≡◌, ℕ, ◌+◌, ◌<◌, ◌≤◌, pos, Bool, true, false, Option, Some, None, List, [], ◌∷◌, ◌++◌, length, map, set, get_or, take, drop, replicate, slice_get, refl, sym, ap, subst, ◌∙◌, arith}
 use Rattle.std.specs.List.{zip, enumerate_from, list_any}
-use Rattle.std.specs.Prelude.{is_some}
+use Rattle.std.specs.Prelude.{is_some, unwrap_or}
 use Rattle.std.proofs.lemmas.List.{length-map, take_at}
-use Rattle.net_engine.specs.Slots.{IsHeld, released_driven}
+use Rattle.net_engine.specs.Slots.{Held, SlotNow, IsSlot, KeepsValue, held_by, held_levels, released, released_driven}
 use Rattle.std.proofs.lemmas.List.FromFn.{length-enumerate_from}
-use Rattle.std.proofs.lemmas.Option.{slice_get-get_or}
+use Rattle.std.proofs.lemmas.Option.{slice_get-get_or, same_Some}
+use Rattle.four_state.specs.declared.bits.Bit.{Bit}
 use Rattle.strengths.specs.Interval.{Interval}
-use Rattle.net_engine.specs.Net.{shown_level}
+use Rattle.strengths.specs.Level.{driven}
+use Rattle.net_engine.specs.Net.{shown_level, seen, strongly}
 use Rattle.net_engine.specs.Delivery.{forced_after, kept_after}
+use Rattle.net_engine.proofs.StrongLemmas.{seen-driven}
 use Rattle.net_engine.proofs.MixLemmas.{mixed, mixed-more, mixed-read, mixed-all, mixed-length, zip-get, zip-length, map-get, enumerate-get, read-at}
 
 -- a level for where there is none
@@ -122,19 +125,90 @@ kept-more base width forced driven levels new i f level kept same inside read at
 pub kept-all : (base width : ℕ) (forced : List (Option Interval)) (driven levels : List Interval) (i : ℕ) → length forced ≡ length driven → length driven ≤ i → levels ≡ mixed (all_kept base width forced driven) driven i → levels ≡ all_kept base width forced driven
 kept-all base width forced driven levels i same enough is = is ∙ mixed-all (all_kept base width forced driven) driven i (omega (arith, kept-length base width forced driven same, enough)) enough
 
--- a release keeps as many levels as places, and says where none is forced
-pub release-held : (base width : ℕ) (keep : Bool) (driven : List Interval) (forced : List (Option Interval)) (new_driven : List Interval) (lent new last : List (Option Interval)) (len : ℕ) (any new_any : Bool) → len ≡ length forced → IsHeld driven forced any
-    → new_driven ≡ released_driven base width keep (record { driven = driven; forced = forced }) → lent ≡ forced → new ≡ all_released base width lent → last ≡ take len (new ++ drop (length new) forced) → new_any ≡ list_any is_some last
-    → IsHeld new_driven (take len (new ++ drop (length new) forced)) new_any
-release-held base width keep driven forced new_driven lent new last len any new_any long held drives same is read anything =
-    let count : length new ≡ length forced = ap length is ∙ released-length base width lent ∙ ap length same in
-    let whole : take len (new ++ drop (length new) forced) ≡ new = take_at new (drop (length new) forced) len (count ∙ sym long) in
-    let driven_count : length new_driven ≡ length driven = ap length drives ∙ released-count base width keep driven forced held.places in
-    let places : length new ≡ length new_driven = count ∙ held.places ∙ sym driven_count in
-    record {
-      places = ap length whole ∙ places;
-      quiet = λ none. whole ∙ any-none new (ap (list_any is_some) (sym (read ∙ whole)) ∙ sym anything ∙ none) ∙ ap quiet places;
-    } where
-      released-count : (b w : ℕ) (k : Bool) (d : List Interval) (f : List (Option Interval)) → length f ≡ length d → length (released_driven b w k (record { driven = d; forced = f })) ≡ length d
-      released-count b w true d f e = kept-length b w f d e
-      released-count b w false d f e = refl
+-- ---- what a slot keeps
+
+-- where nothing is forced, a value that shows its levels is kept by what they are beside bits
+pub keeps-quiet : (kept : Option (List Interval)) (levels : List Interval) (forced : List (Option Interval)) → unwrap_or kept (strongly (seen levels)) ≡ levels → forced ≡ quiet (length levels)
+    → KeepsValue (record { levels = kept; forced = forced }) (record { driven = levels; forced = forced })
+keeps-quiet kept levels forced is none =
+    ap (λ (l : List Interval). value (unwrap_or kept (strongly (seen l)))) (sym (shown-quiet forced levels none)) ∙ ap value is
+  where
+    value : List Interval → Held
+    value d = record { driven = d; forced = forced }
+
+pub keeps-new : (kept : Option (List Interval)) (levels : List Interval) (forced : List (Option Interval)) (n : ℕ) → unwrap_or kept (strongly (seen levels)) ≡ levels → forced ≡ quiet n → n ≡ length levels
+    → KeepsValue (record { levels = kept; forced = forced }) (record { driven = levels; forced = unforced levels })
+keeps-new kept levels forced n is none long =
+    let bare : forced ≡ quiet (length levels) = none ∙ ap quiet long in
+    subst (λ (f : List (Option Interval)). KeepsValue (record { levels = kept; forced = forced }) (record { driven = levels; forced = f })) (bare ∙ none-forced levels) (keeps-quiet kept levels forced is bare)
+
+-- what a slot says of what drives is as long as its places
+pub driven-places : (kept : Option (List Interval)) (bits : List Bit) (forced : List (Option Interval)) (any : Bool) → IsSlot kept forced any → length bits ≡ length forced → length (unwrap_or kept (strongly bits)) ≡ length forced
+driven-places None bits forced any slot long = length-map bits (driven 6 6) ∙ long
+driven-places (Some k) bits forced any slot long = slot.places k refl
+
+-- where nothing is forced, what drives is shown
+pub shown-bare : (kept : Option (List Interval)) (forced : List (Option Interval)) (any : Bool) (now : SlotNow) (bits : List Bit) (drives : List Interval) → IsSlot kept forced any → record { levels = kept; forced = forced } ≡ now → any ≡ false
+    → length bits ≡ length now.forced → drives ≡ (held_by now bits).driven → drives ≡ held_levels (held_by now bits)
+shown-bare kept forced any now bits drives slot view none = subst (λ (n : SlotNow). length bits ≡ length n.forced → drives ≡ (held_by n bits).driven → drives ≡ held_levels (held_by n bits)) view go where
+  go : length bits ≡ length forced → drives ≡ unwrap_or kept (strongly bits) → drives ≡ all_shown forced (unwrap_or kept (strongly bits))
+  go long is =
+      let wide : length drives ≡ length forced = ap length is ∙ driven-places kept bits forced any slot long in
+      shown-quiet forced drives (slot.quiet none ∙ ap quiet (sym wide)) ∙ ap (λ (d : List Interval). all_shown forced d) is
+
+-- where a slot has no levels, the bits in the plane are what drives
+pub bare-bits : (kept : Option (List Interval)) (forced : List (Option Interval)) (now : SlotNow) (bits : List Bit) → record { levels = kept; forced = forced } ≡ now → kept ≡ None → bits ≡ seen (unwrap_or now.levels (strongly bits))
+bare-bits kept forced now bits view none =
+    sym (ap (λ (s : SlotNow). seen (unwrap_or s.levels (strongly bits))) (sym view) ∙ ap (λ (k : Option (List Interval)). seen (unwrap_or k (strongly bits))) none ∙ seen-driven bits)
+
+-- an item on which nothing is forced is driven otherwise
+drive-quiet : (old : Option (List Interval)) (levels : List Interval) (forced : List (Option Interval)) (any : Bool) (now : SlotNow) → IsSlot old forced any → record { levels = old; forced = forced } ≡ now → any ≡ false → length levels ≡ length now.forced
+    → forced ≡ quiet (length levels)
+drive-quiet old levels forced any now slot view none long = slot.quiet none ∙ ap quiet (ap (λ (s : SlotNow). length s.forced) view ∙ sym long)
+
+pub drive-bare : (old kept : Option (List Interval)) (levels : List Interval) (forced : List (Option Interval)) (any : Bool) (now : SlotNow) → IsSlot old forced any → record { levels = old; forced = forced } ≡ now → any ≡ false → length levels ≡ length now.forced
+    → unwrap_or kept (strongly (seen levels)) ≡ levels → KeepsValue (record { levels = kept; forced = forced }) (record { driven = levels; forced = now.forced })
+drive-bare old kept levels forced any now slot view none long is =
+    subst (λ (f : List (Option Interval)). KeepsValue (record { levels = kept; forced = forced }) (record { driven = levels; forced = f })) (ap (λ (s : SlotNow). s.forced) view)
+    (keeps-quiet kept levels forced is (drive-quiet old levels forced any now slot view none long))
+
+pub drive-shown : (old : Option (List Interval)) (levels : List Interval) (forced : List (Option Interval)) (any : Bool) (now : SlotNow) → IsSlot old forced any → record { levels = old; forced = forced } ≡ now → any ≡ false → length levels ≡ length now.forced
+    → levels ≡ held_levels (record { driven = levels; forced = now.forced })
+drive-shown old levels forced any now slot view none long =
+    shown-quiet forced levels (drive-quiet old levels forced any now slot view none long) ∙ ap (λ (s : SlotNow). all_shown s.forced levels) view
+
+-- where every place is forced, what is forced is shown
+forced-shown : (levels driven : List Interval) → length levels ≡ length driven → levels ≡ all_shown (map Some levels) driven
+forced-shown [] [] same = refl
+forced-shown [] (x ∷ driven) same = cc
+forced-shown (l ∷ levels) [] same = cc
+forced-shown (l ∷ levels) (x ∷ driven) same = ap (λ xs. l ∷ xs) (forced-shown levels driven (omega (arith, same)))
+
+pub force-shown : (kept : Option (List Interval)) (forced : List (Option Interval)) (any : Bool) (now : SlotNow) (bits : List Bit) (levels : List Interval) → IsSlot kept forced any → record { levels = kept; forced = forced } ≡ now
+    → length bits ≡ length now.forced → length levels ≡ length now.forced → levels ≡ all_shown (map Some levels) (held_by now bits).driven
+force-shown kept forced any now bits levels slot view = subst (λ (n : SlotNow). length bits ≡ length n.forced → length levels ≡ length n.forced → levels ≡ all_shown (map Some levels) (held_by n bits).driven) view go where
+  go : length bits ≡ length forced → length levels ≡ length forced → levels ≡ all_shown (map Some levels) (unwrap_or kept (strongly bits))
+  go wide long = forced-shown levels (unwrap_or kept (strongly bits)) (long ∙ sym (driven-places kept bits forced any slot wide))
+
+released-count : (base width : ℕ) (keep : Bool) (held : Held) → length held.forced ≡ length held.driven → length (released_driven base width keep held) ≡ length held.driven
+released-count base width true held same = kept-length base width held.forced held.driven same
+released-count base width false held same = refl
+
+-- after a release there are as many levels as places
+pub release-long : (base width : ℕ) (keep : Bool) (kept : Option (List Interval)) (forced : List (Option Interval)) (any : Bool) (now : SlotNow) (bits : List Bit) (drives gives : List Interval) (lent lent_new new : List (Option Interval)) (len : ℕ)
+    → IsSlot kept forced any → record { levels = kept; forced = forced } ≡ now → length bits ≡ length now.forced → drives ≡ (held_by now bits).driven → lent ≡ forced → gives ≡ released_driven base width keep (record { driven = drives; forced = lent })
+    → len ≡ length forced → lent_new ≡ forced → new ≡ all_released base width lent_new → length gives ≡ length (take len (new ++ drop (length new) forced))
+release-long base width keep kept forced any now bits drives gives lent lent_new new len slot view wide is same released len_is same_new is_new =
+    let long : length drives ≡ length forced =
+    ap length is ∙ ap (λ (s : SlotNow). length (unwrap_or s.levels (strongly bits))) (sym view) ∙ driven-places kept bits forced any slot (wide ∙ ap (λ (s : SlotNow). length s.forced) (sym view)) in
+    let count : length new ≡ length forced = ap length is_new ∙ released-length base width lent_new ∙ ap length same_new in
+    ap length released ∙ released-count base width keep (record { driven = drives; forced = lent }) (ap length same ∙ sym long) ∙ long ∙ sym count
+    ∙ sym (ap length (take_at new (drop (length new) forced) len (count ∙ sym len_is)))
+
+-- and nothing is forced where none is found
+pub release-slot : (gives : List Interval) (filled read : List (Option Interval)) (any : Bool) → length gives ≡ length filled → read ≡ filled → any ≡ list_any is_some read → IsSlot (Some gives) filled any
+release-slot gives filled read any long same anything = record {
+  places = λ (k : List Interval) (e : Some gives ≡ Some k). ap length (sym (same_Some gives k e)) ∙ long;
+  quiet = λ (none : any ≡ false). any-none filled (ap (list_any is_some) (sym same) ∙ sym anything ∙ none);
+  bare = λ (e : Some gives ≡ None). cc;
+}

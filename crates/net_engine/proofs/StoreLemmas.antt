@@ -13,13 +13,39 @@ use Rattle.strengths.specs.Level.{seen_bit}
 use Rattle.net_engine.specs.declared.store.Change.{Change}
 use Rattle.net_engine.specs.Net.{NetValues, Request, forced_of, levels_of, seen, shown_level, with_parts}
 use Rattle.net_engine.specs.Delivery.{forced_after, kept_after, driven_after}
-use Rattle.net_engine.specs.Slots.{Held, held_levels, driven_in, forced_in, place_in, released, released_driven, HasPlaces, IsStored}
+use Rattle.net_engine.specs.Slots.{Held, held_levels, driven_in, forced_in, place_in, released, released_driven, HasPlaces, IsStored, SlotNow, held_by, held_in, helds}
 use Rattle.net_engine.specs.Parts.{IsChange, place_by_value}
-use Rattle.net_engine.proofs.MixLemmas.{map-get, zip-length}
+use Rattle.net_engine.proofs.MixLemmas.{map-get, zip-get, zip-length}
 
 -- the values that slots, words and requests have
 abbrev pub stored : List (Option Held) → List (List (List Bit)) → List Request → NetValues
 stored slots words requests = record { driven = map driven_in slots; forced = map forced_in slots; words = words; requests = requests }
+
+-- ---- values by slots and the plane
+
+zip-set : {X Y : Type 0} (xs : List X) (ys : List Y) (i : ℕ) (x : X) (y : Y) → zip (set xs i x) (set ys i y) ≡ set (zip xs ys) i (x, y)
+zip-set [] ys i x y = refl
+zip-set (a ∷ xs) [] zero x y = refl
+zip-set (a ∷ xs) [] (suc i) x y = refl
+zip-set (a ∷ xs) (b ∷ ys) zero x y = refl
+zip-set (a ∷ xs) (b ∷ ys) (suc i) x y = ap (λ rest. (a, b) ∷ rest) (zip-set xs ys i x y)
+
+pub helds-set : (slots : List (Option SlotNow)) (plane : List (List Bit)) (item : ℕ) (slot : SlotNow) (bits : List Bit) → helds (set slots item (Some slot)) (set plane item bits) ≡ set (helds slots plane) item (Some (held_by slot bits))
+helds-set slots plane item slot bits = ap (map held_in) (zip-set slots plane item (Some slot) bits) ∙ map-set held_in (zip slots plane) item (Some slot, bits)
+
+pub helds-get : (slots : List (Option SlotNow)) (plane : List (List Bit)) (item : ℕ) (slot : SlotNow) (bits : List Bit) → slice_get slots item ≡ Some (Some slot) → slice_get plane item ≡ Some bits → slice_get (helds slots plane) item ≡ Some (Some (held_by slot bits))
+helds-get slots plane item slot bits at read = map-get held_in (zip slots plane) item (Some slot, bits) (zip-get slots plane item (Some slot) bits at read)
+
+pub helds-length : (slots : List (Option SlotNow)) (plane : List (List Bit)) → length plane ≡ length slots → length (helds slots plane) ≡ length plane
+helds-length slots plane same = length-map (zip slots plane) held_in ∙ zip-length slots plane (sym same)
+
+-- an item that has a value has a slot
+pub helds-slot : (slots : List (Option SlotNow)) (plane : List (List Bit)) (item : ℕ) (held : Held) → slice_get (helds slots plane) item ≡ Some (Some held) → (slot : SlotNow) × (slice_get slots item ≡ Some (Some slot))
+helds-slot [] plane item held at = cc
+helds-slot (slot ∷ slots) [] item held at = cc
+helds-slot (None ∷ slots) (place ∷ plane) zero held at = cc
+helds-slot (Some slot ∷ slots) (place ∷ plane) zero held at = (slot, refl)
+helds-slot (slot ∷ slots) (place ∷ plane) (suc item) held at = helds-slot slots plane item held at
 
 -- ---- reading
 

@@ -1,6 +1,6 @@
 -- Marks, threads and an agenda with which a change may be delivered where nothing is pending.
-use Rattle.std.proofs.Common.{◌≡◌, ℕ, zero, suc, ◌+◌, ◌≤◌, Bool, false, Option, Some, None, List, [], ◌∷◌, ◌++◌, length, replicate, get_or, if◌then◌else◌, refl, sym, ap, subst, ◌∙◌, arith}
-use Rattle.std.specs.List.{All, count_by, enumerate_from}
+use Rattle.std.proofs.Common.{◌≡◌, ℕ, zero, suc, ◌+◌, ◌≤◌, Bool, false, Some, None, List, [], ◌∷◌, ◌++◌, length, replicate, get_or, if◌then◌else◌, refl, sym, ap, subst, ◌∙◌, arith}
+use Rattle.std.specs.List.{All, enumerate_from}
 use Rattle.std.proofs.lemmas.List.{length-set, length-replicate}
 use Rattle.std.proofs.lemmas.List.Elements.{All-nil}
 use Rattle.std.proofs.lemmas.List.Sums.{count_by-le-length}
@@ -8,13 +8,13 @@ use Rattle.std.proofs.lemmas.List.FromFn.{length-enumerate_from}
 use Rattle.event_pool.specs.declared.agenda.Due.{Due}
 use Rattle.event_pool.specs.Schedule.{Schedule}
 use Rattle.vvp_threads.specs.declared.thread.ThreadState.TheVariants.{Ready}
-use Rattle.vvp_threads.specs.Table.{Table, spawned, waits_on, waiters_of, IsInState}
+use Rattle.vvp_threads.specs.Table.{spawned, waits_on, IsInState}
 use Rattle.vvp_threads.specs.Keyed.{KeyedTable, IsKeyOf}
 use Rattle.vvp_threads.specs.Runs.{HasKey, HasRuns, lacks_run, runs_of}
 use Rattle.sym_link.specs.Roots.{Node}
 use Rattle.net_engine.specs.Net.{NetValues}
-use Rattle.net_engine.specs.Kept.{NamesItems, Fits, evals_lacking, evals_of, lacks_eval, mark_of}
-use Rattle.net_engine.specs.Parts.{MayFit, net_of}
+use Rattle.net_engine.specs.Kept.{NamesItems, evals_lacking, evals_of, lacks_eval, mark_of}
+use Rattle.net_engine.specs.Parts.{MayFit}
 
 no-mark : (count item : ℕ) → get_or (replicate count false) item false ≡ false
 no-mark zero zero = refl

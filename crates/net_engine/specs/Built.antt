@@ -8,7 +8,8 @@ use Rattle.sym_link.specs.declared.program.ItemKind.{ItemKind}
 use Rattle.sym_link.specs.declared.program.ItemKind.TheVariants.{Var, Functor, Delay, Array, AnyOf}
 use Rattle.sym_link.specs.Roots.{Node}
 use Rattle.net_engine.specs.Net.{first_driven_by}
-use Rattle.net_engine.specs.Slots.{Held}
+use Rattle.four_state.specs.declared.bits.Bit.{Bit}
+use Rattle.net_engine.specs.Slots.{Held, SlotNow, place_in, held_in}
 
 -- what drives an item before anything has happened, where it has a value of its own
 abbrev pub first_levels : Node → ItemKind → Option (List Interval)
@@ -24,6 +25,14 @@ held_of levels = record { driven = levels; forced = map (λ level. None) levels 
 -- the value of an item before anything has happened
 abbrev pub first_slot : Node → Option Held
 first_slot node = option_map held_of (first_levels node node.what)
+
+-- the bits that an item has in the plane before anything has happened
+abbrev pub first_place : Node → List Bit
+first_place node = place_in (first_slot node)
+
+-- with these bits in the plane, what is kept of an item is its value before anything has happened
+abbrev pub IsFirst : Option SlotNow → Node → Type 0
+IsFirst slot node = held_in (slot, first_place node) ≡ first_slot node
 
 -- the widths and strengths of an item are those of its form
 abbrev pub IsSizedBy : Node → ItemKind → Type 0

@@ -8,8 +8,8 @@ ghost use Rattle.sym_link.specs.Sound.{IsProgram, IsItem};
 ghost use Rattle.net_engine.specs.Net.{first_driven_by, first_words, first_values};
 ghost use Rattle.net_engine.specs.Kept.{has_output};
 ghost use Rattle.net_engine.specs.Readers.{driven_ports, listeners_of};
-ghost use Rattle.net_engine.specs.Slots.{Held, HasPlaces, place_in, IsStored, driven_in, forced_in};
-ghost use Rattle.net_engine.specs.Built.{first_levels, first_slot, IsSized, AreEvents, events_of, is_last, once, IsListing};
+ghost use Rattle.net_engine.specs.Slots.{HasPlaces, helds};
+ghost use Rattle.net_engine.specs.Built.{first_levels, first_slot, first_place, IsFirst, IsSized, AreEvents, events_of, is_last, once, IsListing};
 
 use crate::design::{Design, Row};
 use crate::slot::Slot;
@@ -222,8 +222,8 @@ fn first_levels(item: &Item) -> Option<Vec8>
 // The value of an item before anything has happened.
 fn first_slot(alloc: Global, item: &Item) -> Result<Option<Slot>, AllocError>
     requires { IsSized (node_of item.now) }
-    ensures value { IfOk result (λ slot. slot ≡ first_slot (node_of item.now)) }
-    ensures places { IfOk result HasPlaces }
+    ensures value { IfOk result (λ slot. IsFirst slot (node_of item.now)) }
+    ensures places { HasPlaces (first_slot (node_of item.now)) }
 {
     match first_levels(item) {
         Some(levels) => Ok(Some(Slot::new(alloc, levels)?)),
@@ -258,8 +258,9 @@ fn first_words(alloc: Global, item: &Item) -> Result<Words, AllocError>
 // The values of all items before anything has happened.
 fn all_slots(alloc: Global, items: &[Item]) -> Result<Vec<Option<Slot>>, AllocError>
     requires { All (λ item. IsSized (node_of item)) items.now }
-    ensures values { IfOk result (λ slots. slots.items ≡ map first_slot (map node_of items.now)) }
-    ensures places { IfOk result (λ slots. All HasPlaces slots.items) }
+    ensures count { IfOk result (λ slots. length slots.items ≡ length items.now) }
+    ensures values { IfOk result (λ slots. helds slots.items (map first_place (map node_of items.now)) ≡ map first_slot (map node_of items.now)) }
+    ensures places { IfOk result (λ slots. All HasPlaces (map first_slot (map node_of items.now))) }
 {
     let mut slots = Vec::new(alloc);
     'items: for i in 0..items.len() {
@@ -291,52 +292,50 @@ fn no_requests(alloc: Global, count: usize) -> Result<Vec<Request>, AllocError>
 }
 
 // The width of an item's place in the plane.
-fn place_width(slot: &Option<Slot>) -> u8
-    requires { HasPlaces slot.now }
-    ensures value { result ≡ length (place_in slot.now) }
+fn place_width(item: &Item) -> u8
+    requires { IsSized (node_of item.now) }
+    ensures value { result ≡ length (first_place (node_of item.now)) }
     ensures least { 1 ≤ result }
     ensures most { result ≤ 128 }
 {
-    match slot {
-        Some(slot) => slot.shown().width(),
-        None => 1,
-    }
+    place_bits(item).width()
 }
 
 // The width of each item's place in the plane.
-fn place_widths(alloc: Global, slots: &[Option<Slot>]) -> Result<Vec<u8>, AllocError>
-    requires { All HasPlaces slots.now }
-    ensures widths { IfOk result (λ widths. widths.items ≡ map (λ slot. length (place_in slot)) slots.now) }
+fn place_widths(alloc: Global, items: &[Item]) -> Result<Vec<u8>, AllocError>
+    requires { All (λ item. IsSized (node_of item)) items.now }
+    ensures widths { IfOk result (λ widths. widths.items ≡ map length (map first_place (map node_of items.now))) }
     ensures least { IfOk result (λ widths. All (λ width. 1 ≤ width) widths.items) }
     ensures most { IfOk result (λ widths. All (λ width. width ≤ 128) widths.items) }
 {
     let mut widths = Vec::new(alloc);
-    'slots: for i in 0..slots.len() {
-        widths.push(place_width(&slots[i]))?;
+    'items: for i in 0..items.len() {
+        widths.push(place_width(&items[i]))?;
     }
     Ok(widths)
 }
 
-// The bits that an item shows in the plane.
-fn place_bits(slot: &Option<Slot>) -> Vec4
-    ensures { result ≡ place_in slot.now }
+// The bits that an item has in the plane before anything has happened.
+fn place_bits(item: &Item) -> Vec4
+    requires { IsSized (node_of item.now) }
+    ensures { result ≡ first_place (node_of item.now) }
 {
-    match slot {
-        Some(slot) => seen(slot.shown()),
+    match first_levels(item) {
+        Some(levels) => seen(levels),
         None => Vec4::splat(Bit::Unknown, 1),
     }
 }
 
-// The plane that shows what the items show.
-fn shown_plane(alloc: Global, slots: &[Option<Slot>]) -> Result<Plane, AllocError>
-    requires few { length slots.now ≤ 2 ^ 20 }
-    requires places { All HasPlaces slots.now }
-    ensures { IfOk result (λ plane. plane ≡ map place_in slots.now) }
+// The plane before anything has happened.
+fn first_plane(alloc: Global, items: &[Item]) -> Result<Plane, AllocError>
+    requires few { length items.now ≤ 2 ^ 20 }
+    requires sized { All (λ item. IsSized (node_of item)) items.now }
+    ensures { IfOk result (λ plane. plane ≡ map first_place (map node_of items.now)) }
 {
-    let widths = place_widths(alloc, slots)?;
+    let widths = place_widths(alloc, items)?;
     let mut plane = Plane::new(alloc, widths.as_slice())?;
-    'slots: for i in 0..slots.len() {
-        plane.set(i as u32, place_bits(&slots[i]));
+    'items: for i in 0..items.len() {
+        plane.set(i as u32, place_bits(&items[i]));
     }
     Ok(plane)
 }
@@ -350,7 +349,7 @@ pub(crate) fn store_of(alloc: Global, program: &Program) -> Result<Store, AllocE
     let slots = all_slots(alloc, items)?;
     let words = all_words(alloc, items)?;
     let requests = no_requests(alloc, items.len())?;
-    let plane = shown_plane(alloc, slots.as_slice())?;
+    let plane = first_plane(alloc, items)?;
     Ok(Store::new(slots, words, requests, plane))
 }
 

@@ -9,6 +9,7 @@
 mod build;
 mod deliver;
 mod design;
+mod driver;
 mod edges;
 mod net;
 mod outputs;

@@ -9,11 +9,13 @@ ghost use Rattle.net_engine.specs.Net.{with_request, words_of, value_of, driven_
 ghost use Rattle.net_engine.specs.Delivery.{write, eval, mature, force, release, trigger, change, variable_assigned, asked, asked_anew, follows_after, postponed};
 ghost use Rattle.net_engine.specs.Kept.{Fits, FitsBut, Delivers, IsWritable, IsDelay, HasOutput, has_output, evals_lacking};
 ghost use Rattle.net_engine.specs.Readers.{driven_ports};
+ghost use Rattle.net_engine.specs.Slots.{levels_by};
 ghost use Rattle.net_engine.specs.Parts.{plane_of, HasLevels, HasValue, AreWide, AsksAtMost, keeps};
 
 use crate::build::{design_of, marks_of, store_of};
 use crate::deliver::{follow, trigger};
 use crate::design::Design;
+use crate::driver::Driver;
 use crate::outputs::output;
 use crate::store::{Request, Store};
 use crate::times::Times;
@@ -22,7 +24,7 @@ use four_state::{Values, Vec4};
 use port_chain::Fanout;
 use std::alloc::{AllocError, Global};
 use std::marker::Model;
-use strengths::{Level, Vec8, drive, seen};
+use strengths::{Level, Vec8};
 use sym_link::{ItemKind, Program};
 use value_plane::Plane;
 use vvp_threads::Threads;
@@ -142,14 +144,20 @@ impl<F: Fanout + Drop> Net<F> {
     }
 
     // An item is driven otherwise.
-    fn change<A: Agenda>(&mut self, item: u32, levels: Vec8, agenda: &mut A, threads: &mut Threads)
+    fn change<A: Agenda>(
+        &mut self,
+        item: u32,
+        driver: Driver,
+        agenda: &mut A,
+        threads: &mut Threads,
+    )
         requires fits { Fits self.old threads.old (A.schedule agenda.old) }
         requires there { 1 ≤ length (driven_of self.old.values item) }
-        requires width { length levels ≡ length (driven_of self.old.values item) }
-        ensures state { Delivers (change self.old.nodes item levels) self.old self.new threads.old threads.new (A.schedule agenda.old) (A.schedule agenda.new) }
+        requires width { length (levels_by driver) ≡ length (driven_of self.old.values item) }
+        ensures state { Delivers (change self.old.nodes item (levels_by driver)) self.old self.new threads.old threads.new (A.schedule agenda.old) (A.schedule agenda.new) }
         ensures requests { self.new.values.requests ≡ self.old.values.requests }
     {
-        let change = self.store.drive(item, levels);
+        let change = self.store.drive(item, driver);
         follow(
             &self.design,
             self.marks.as_mut_slice(),
@@ -174,8 +182,8 @@ impl<F: Fanout + Drop> Net<F> {
         ensures state { Delivers (variable_assigned self.old.nodes item offset value) self.old self.new threads.old threads.new (A.schedule agenda.old) (A.schedule agenda.new) }
         ensures requests { self.new.values.requests ≡ self.old.values.requests }
     {
-        let bits = seen(self.store.driven(item)).put(offset, value);
-        self.change(item, drive(bits, 6, 6), agenda, threads);
+        let bits = self.store.driven_bits(item).put(offset, value);
+        self.change(item, Driver::Bits(bits), agenda, threads);
     }
 
     /// Lays a value over a variable, word 0, or over a word of an array, from the place `offset` up; what lies outside is
@@ -226,8 +234,8 @@ impl<F: Fanout + Drop> Net<F> {
                 self.ask(item, times, wanted, agenda, threads);
             }
             _ => {
-                let levels = output(&self.design, &self.store, item);
-                self.change(item, levels, agenda, threads);
+                let driver = output(&self.design, &self.store, item);
+                self.change(item, driver, agenda, threads);
             }
         }
     }
@@ -308,7 +316,7 @@ impl<F: Fanout + Drop> Net<F> {
             self.postpone(item, ticks, wanted, request.serial, agenda, threads);
         } else {
             self.store.set_request(item, request);
-            self.change(item, wanted, agenda, threads);
+            self.change(item, Driver::Levels(wanted), agenda, threads);
         }
     }
 
@@ -364,7 +372,7 @@ impl<F: Fanout + Drop> Net<F> {
         }
         if let Some(kept) = request.kept {
             self.store.set_request(item, Request { serial, kept: None });
-            self.change(item, kept, agenda, threads);
+            self.change(item, Driver::Levels(kept), agenda, threads);
         }
     }
 

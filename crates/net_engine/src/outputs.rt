@@ -1,16 +1,22 @@
 //! What gates drive, by the values that their ports have now.
 
-ghost use Rattle.std.specs.Prelude.{◌≡◌, ℕ, ◌<◌, ◌≤◌, Some, IfSome, All, length, map, slice_get};
+ghost use Rattle.std.specs.Prelude.{◌≡◌, ℕ, ◌<◌, ◌≤◌, true, Some, IfSome, IsTrue, All, length, map, option_map, slice_get};
+ghost use Rattle.gate_rules.specs.Ports.{seen_ports};
+ghost use Rattle.gate_rules.specs.Strong.{looks, keeps_strong};
 ghost use Rattle.sym_link.specs.Roots.{Node, kind_of};
-ghost use Rattle.net_engine.specs.Net.{at_source, output_of};
+ghost use Rattle.net_engine.specs.Net.{at_source, output_of, seen};
 ghost use Rattle.net_engine.specs.Parts.{IsLinked, AreWide, IsShowing, AreShowing, IsGateKind};
+ghost use Rattle.net_engine.specs.Slots.{levels_by};
 
 use crate::design::Design;
+use crate::driver::Driver;
 use crate::store::Store;
-use gate_rules::eval_gate;
+use four_state::Vec4;
+use gate_rules::{eval_gate, eval_strong};
 use port_chain::Fanout;
 use strengths::{Vec8, drive};
 use sym_link::{ItemKind, Source, Sources};
+use vvp_forms::Gate;
 
 // The levels, of which there are some.
 fn sized(levels: Vec8) -> Vec8
@@ -53,21 +59,92 @@ fn at_ports<F: Fanout + Drop>(
     ]
 }
 
-/// What a gate drives.
-pub(crate) fn output<F: Fanout + Drop>(design: &Design<F>, store: &Store, item: u32) -> Vec8
+// Whether a gate makes strong bits of the bits that its ports are seen as, whatever their strengths.
+fn is_by_bits(gate: &Gate, drives: (u8, u8)) -> bool
+    ensures looks { result ≡ true → looks gate.now ≡ true }
+    ensures strong { result ≡ true → IsTrue (keeps_strong gate.now drives.0 drives.1) }
+{
+    match gate {
+        Gate::And
+        | Gate::Or
+        | Gate::Xor
+        | Gate::Nand
+        | Gate::Nor
+        | Gate::Xnor
+        | Gate::Buf
+        | Gate::Not
+        | Gate::Bufz
+        | Gate::Muxz => drives.0 == 6 && drives.1 == 6,
+        Gate::Arithmetic { .. } | Gate::Compare { .. } | Gate::Shift { .. } | Gate::Reduce { .. } =>
+            true,
+        _ => false,
+    }
+}
+
+// The bits, of which there are some.
+fn sized_bits(bits: Vec4) -> Vec4
+    ensures value { result ≡ bits }
+    ensures least { 1 ≤ length result }
+{
+    let _width = bits.width();
+    bits
+}
+
+// The bits that a port is seen as.
+fn bits_at_source<F: Fanout + Drop>(
+    design: &Design<F>,
+    store: &Store,
+    source: &Source,
+) -> Option<Vec4>
+    requires { IsShowing design.now store.now source.now }
+    ensures value { result ≡ option_map seen (at_source design.now store.now source.now) }
+    ensures least { IfSome result (λ bits. 1 ≤ length bits) }
+{
+    match source {
+        Source::Unused => None,
+        Source::Item(item) => Some(sized_bits(store.bits(design.root(*item)))),
+        Source::Fixed(bits) => Some(sized_bits(*bits)),
+    }
+}
+
+// The bits that the four ports of a gate are seen as.
+fn bits_at_ports<F: Fanout + Drop>(
+    design: &Design<F>,
+    store: &Store,
+    ports: &Sources,
+) -> [Option<Vec4>; 4]
+    requires { AreShowing design.now store.now ports.now }
+    ensures value { result ≡ seen_ports (map (at_source design.now store.now) ports.now) }
+    ensures least { All (λ port. IfSome port (λ bits. 1 ≤ length bits)) result }
+{
+    let ports = ports.as_array();
+    [
+        bits_at_source(design, store, &ports[0]),
+        bits_at_source(design, store, &ports[1]),
+        bits_at_source(design, store, &ports[2]),
+        bits_at_source(design, store, &ports[3]),
+    ]
+}
+
+/// What a gate drives: bits, where it looks at bits alone and drives strongly.
+pub(crate) fn output<F: Fanout + Drop>(design: &Design<F>, store: &Store, item: u32) -> Driver
     requires linked { IsLinked design.now }
     requires wide { AreWide design.now store.now }
     requires gate { IsGateKind (kind_of design.now item) }
-    ensures value { (node : Node) → slice_get design.now item ≡ Some node → result ≡ output_of design.now store.now node }
-    ensures width { (node : Node) → slice_get design.now item ≡ Some node → length result ≡ node.width }
+    ensures value { (node : Node) → slice_get design.now item ≡ Some node → levels_by result ≡ output_of design.now store.now node }
+    ensures width { (node : Node) → slice_get design.now item ≡ Some node → length (levels_by result) ≡ node.width }
 {
     match design.kind(item) {
-        ItemKind::Functor { gate, drive, ports } => eval_gate(
-            gate,
-            design.width(item),
-            *drive,
-            &at_ports(design, store, ports),
-        ),
+        ItemKind::Functor { gate, drive, ports } => {
+            let width = design.width(item);
+            if is_by_bits(gate, *drive) {
+                let bits = bits_at_ports(design, store, ports);
+                Driver::Bits(eval_strong(gate, width, &bits))
+            } else {
+                let levels = at_ports(design, store, ports);
+                Driver::Levels(eval_gate(gate, width, *drive, &levels))
+            }
+        }
         _ => unreachable!(),
     }
 }

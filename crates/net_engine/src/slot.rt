@@ -1,35 +1,39 @@
 //! What drives an item, and what is forced on it.
 
-ghost use Rattle.std.specs.Prelude.{◌≡◌, ℕ, ◌+◌, ◌<◌, ◌≤◌, ◌^◌, true, length, map, zip, replicate, IfOk, Option, Some, None, is_some, slice_get, slice_set};
+ghost use Rattle.std.specs.Prelude.{◌≡◌, ℕ, ◌+◌, ◌<◌, ◌≤◌, ◌^◌, true, length, map, zip, replicate, unwrap_or, IfOk, Option, Some, None, is_some, slice_get, slice_set};
 ghost use Rattle.std.specs.List.{enumerate_from, list_any};
 ghost use Rattle.strengths.specs.Interval.{Interval};
 ghost use Rattle.strengths.specs.Level.{driven, seen_bit};
-ghost use Rattle.net_engine.specs.Net.{shown_level};
+ghost use Rattle.net_engine.specs.Net.{shown_level, seen, strongly};
 ghost use Rattle.net_engine.specs.Delivery.{is_among, forced_after, kept_level, kept_after};
-ghost use Rattle.net_engine.specs.Slots.{Held, held_levels, released, released_driven, HasPlaces};
+ghost use Rattle.net_engine.specs.Slots.{held_by, held_levels, forcing, released, released_driven, HasPlaces, KeepsValue, IsPlain};
 
+use four_state::Vec4;
 use std::alloc::{AllocError, Global};
 use std::marker::Model;
 use strengths::{Level, Vec8, drive, seen};
 
-/// What drives the places of an item, and what is forced on each (IEEE 1364-2005, 7.9 and 9.3.2). Contracts see both lists.
-/// Forcing takes no memory: there is a place for a forced level of each from the start.
+/// What is forced on the places of an item, and the levels that drive them (IEEE 1364-2005, 7.9 and 9.3.2), where these
+/// aren't the bits that the plane has of the item, driven as a variable drives them. Contracts see both.
+///
+/// Where nothing is forced and the levels are those of bits that are driven so, a slot has no levels: the plane alone has
+/// the value. Forcing takes no memory: there is a place for a forced level of each place from the start.
 #[derive(Drop)]
 pub(crate) struct Slot {
-    driven: Vec8,
+    levels: Option<Vec8>,
     forced: Vec<Option<Level>>,
     // False where nothing is forced.
     any: bool,
 }
 
 impl Model for Slot {
-    ghost use Rattle.net_engine.specs.Slots.{Held, IsHeld};
+    ghost use Rattle.net_engine.specs.Slots.{SlotNow, IsSlot};
 
-    ghost Value = { Held };
+    ghost Value = { SlotNow };
 
-    ghost view = { λ s. record { driven = s.driven; forced = s.forced.items } };
+    ghost view = { λ s. record { levels = s.levels; forced = s.forced.items } };
 
-    ghost invariant = { λ s. IsHeld s.driven s.forced.items s.any };
+    ghost invariant = { λ s. IsSlot s.levels s.forced.items s.any };
 }
 
 // The level that a place shows, put into the levels.
@@ -160,24 +164,56 @@ fn none_forced(alloc: Global, places: u8) -> Result<Vec<Option<Level>>, AllocErr
     vec![in alloc; None; places as usize]
 }
 
+// The levels, but for those of bits that are driven as a variable drives them.
+fn beside_bits(levels: Vec8) -> Option<Vec8>
+    ensures { unwrap_or result (strongly (seen levels)) ≡ levels }
+{
+    if drive(seen(levels), 6, 6) == levels {
+        None
+    } else {
+        Some(levels)
+    }
+}
+
 impl Slot {
     /// Driven with these levels, and nothing forced. The only error is want of memory.
     pub(crate) fn new(alloc: Global, levels: Vec8) -> Result<Slot, AllocError>
-        ensures value { IfOk result (λ slot. slot ≡ record { driven = levels; forced = map (λ level. None) levels }) }
-        ensures places { IfOk result (λ slot. HasPlaces (Some slot)) }
+        ensures value { IfOk result (λ slot. KeepsValue slot (record { driven = levels; forced = map (λ level. None) levels })) }
+        ensures width { IfOk result (λ slot. length slot.forced ≡ length levels) }
+        ensures places { HasPlaces (Some (record { driven = levels; forced = map (λ level. None) levels })) }
     {
         Ok(Slot {
-            driven: levels,
+            levels: beside_bits(levels),
             forced: none_forced(alloc, levels.width())?,
             any: false,
         })
     }
 
-    /// What drives the places.
-    pub(crate) fn driven(&self) -> Vec8
-        ensures { result ≡ self.now.driven }
+    /// Whether the bits in the plane tell all of the item.
+    pub(crate) fn is_plain(&self) -> bool
+        ensures { result ≡ true → IsPlain self.now }
     {
-        self.driven
+        self.levels.is_none()
+    }
+
+    /// What drives the places, of which the plane has these bits.
+    pub(crate) fn driven(&self, bits: Vec4) -> Vec8
+        ensures { result ≡ (held_by self.now bits).driven }
+    {
+        match self.levels {
+            Some(levels) => levels,
+            None => drive(bits, 6, 6),
+        }
+    }
+
+    /// The bits that what drives the places is seen as, of which the plane has these bits.
+    pub(crate) fn driven_bits(&self, bits: Vec4) -> Vec4
+        ensures { result ≡ seen (held_by self.now bits).driven }
+    {
+        match self.levels {
+            Some(levels) => seen(levels),
+            None => bits,
+        }
     }
 
     /// What is forced on a place.
@@ -188,41 +224,60 @@ impl Slot {
         self.forced[place as usize]
     }
 
-    /// The levels that the places show.
-    pub(crate) fn shown(&self) -> Vec8
-        ensures { result ≡ held_levels self.now }
+    /// The levels that the places show, of which the plane has these bits.
+    pub(crate) fn shown(&self, bits: Vec4) -> Vec8
+        requires { length bits ≡ length self.now.forced }
+        ensures { result ≡ held_levels (held_by self.now bits) }
     {
+        let driven = self.driven(bits);
         if self.any {
-            shown(self.driven, self.forced.as_slice())
+            shown(driven, self.forced.as_slice())
         } else {
-            self.driven
+            driven
         }
     }
 
-    /// Drives the places otherwise.
-    pub(crate) fn drive(&mut self, levels: Vec8)
-        requires { length levels ≡ length self.old.driven }
-        ensures { self.new ≡ record self.old { driven = levels } }
+    /// Drives the places otherwise. The levels that they show.
+    pub(crate) fn drive(&mut self, levels: Vec8) -> Vec8
+        requires { length levels ≡ length self.old.forced }
+        ensures value { KeepsValue self.new (record { driven = levels; forced = self.old.forced }) }
+        ensures shown { result ≡ held_levels (record { driven = levels; forced = self.old.forced }) }
     {
-        self.driven = levels;
+        if self.any {
+            self.levels = Some(levels);
+            shown(levels, self.forced.as_slice())
+        } else {
+            self.levels = beside_bits(levels);
+            levels
+        }
     }
 
-    /// Forces every place.
-    pub(crate) fn force(&mut self, levels: Vec8)
-        requires { length levels ≡ length self.old.driven }
-        ensures { self.new ≡ record self.old { forced = map Some levels } }
+    /// Forces every place, of which the plane has these bits. The levels that they show.
+    pub(crate) fn force(&mut self, bits: Vec4, levels: Vec8) -> Vec8
+        requires bits { length bits ≡ length self.old.forced }
+        requires levels { length levels ≡ length self.old.forced }
+        ensures value { KeepsValue self.new (forcing levels (held_by self.old bits)) }
+        ensures shown { result ≡ held_levels (forcing levels (held_by self.old bits)) }
+        ensures forced { self.new.forced ≡ map Some levels }
     {
+        self.levels = Some(self.driven(bits));
         force_all(self.forced.as_mut_slice(), levels);
         self.any = true;
+        levels
     }
 
-    /// Forces so many places from a base on no longer. With `keep` they are driven as they were forced.
-    pub(crate) fn release(&mut self, base: u8, width: u8, keep: bool)
-        requires { length self.old.forced ≤ 128 }
-        ensures { self.new ≡ released base width keep self.old }
+    /// Forces so many places from a base on no longer, of which the plane has these bits. With `keep` they are driven as they
+    /// were forced. The levels that they show.
+    pub(crate) fn release(&mut self, bits: Vec4, base: u8, width: u8, keep: bool) -> Vec8
+        requires bits { length bits ≡ length self.old.forced }
+        requires places { length self.old.forced ≤ 128 }
+        ensures value { KeepsValue self.new (released base width keep (held_by self.old bits)) }
+        ensures shown { result ≡ held_levels (released base width keep (held_by self.old bits)) }
     {
-        self.driven = released(self.driven, self.forced.as_slice(), base, width, keep);
+        let driven = released(self.driven(bits), self.forced.as_slice(), base, width, keep);
         release_some(self.forced.as_mut_slice(), base, width);
         self.any = is_any(self.forced.as_slice());
+        self.levels = Some(driven);
+        self.drive(driven)
     }
 }

@@ -1,13 +1,14 @@
 //! The values of all items.
 
-ghost use Rattle.std.specs.Prelude.{◌≡◌, ℕ, ◌+◌, ◌<◌, ◌≤◌, [], length, map, Option, Some, IfSome, slice_get, slice_set, slice_index_or};
+ghost use Rattle.std.specs.Prelude.{◌≡◌, ℕ, ◌+◌, ◌<◌, ◌≤◌, true, [], length, map, replicate, Option, Some, None, IfSome, slice_get, slice_set, slice_index_or};
 ghost use Rattle.std.specs.List.{enumerate_from};
 ghost use Rattle.four_state.specs.Vector.{overlaid};
 ghost use Rattle.net_engine.specs.Net.{driven_of, forced_of, levels_of, array_of, request_of, seen, strongly, with_parts, with_word, with_request};
 ghost use Rattle.net_engine.specs.Delivery.{forced_after, driven_after};
-ghost use Rattle.net_engine.specs.Slots.{Held, held_levels, released, HasPlaces, IsStored, driven_in, forced_in};
+ghost use Rattle.net_engine.specs.Slots.{SlotNow, driving, forcing, released, levels_by, IsPlain, IsChanged, IsKept, helds, driven_in, forced_in};
 ghost use Rattle.net_engine.specs.Parts.{IsChange, HasBits, place_by_value};
 
+use crate::driver::Driver;
 use crate::slot::Slot;
 use four_state::Vec4;
 use std::marker::Model;
@@ -55,6 +56,10 @@ impl Model for Request {
 }
 
 /// The values of all items, by item. Contracts see what drives each, what is forced on it, its words and its last request.
+///
+/// An item on which nothing is forced, and which bits drive as a variable is driven, has its value in the plane alone: a
+/// change of it compares two vectors. The slot of any other item has the levels that drive it. How an item is kept changes
+/// with what drives it and what is forced on it.
 #[derive(Drop)]
 pub(crate) struct Store {
     slots: Vec<Option<Slot>>,
@@ -67,18 +72,18 @@ pub(crate) struct Store {
 impl Model for Store {
     ghost use Rattle.std.specs.Prelude.{map};
     ghost use Rattle.net_engine.specs.Net.{NetValues};
-    ghost use Rattle.net_engine.specs.Slots.{driven_in, forced_in, IsStored};
+    ghost use Rattle.net_engine.specs.Slots.{driven_in, forced_in, helds, IsKept};
 
     ghost Value = { NetValues };
 
     ghost view = { λ s. record {
-      driven = map driven_in s.slots.items;
-      forced = map forced_in s.slots.items;
+      driven = map driven_in (helds s.slots.items s.plane);
+      forced = map forced_in (helds s.slots.items s.plane);
       words = s.words.items;
       requests = s.requests.items;
     } };
 
-    ghost invariant = { λ s. IsStored s.slots.items s.plane };
+    ghost invariant = { λ s. IsKept s.slots.items s.plane };
 }
 
 // An item shows `new` in place of `old`: puts it into the plane, and says what changed.
@@ -102,75 +107,98 @@ fn show(plane: &mut Plane, item: u32, old: Vec8, new: Vec8) -> Option<Change>
     })
 }
 
-// Drives an item otherwise. What it showed, and what it shows.
-fn drive_at(slots: &mut [Option<Slot>], item: u32, levels: Vec8) -> (Vec8, Vec8)
-    requires { (held : Held) × (slice_get slots.old item ≡ Some (Some held)) × (length levels ≡ length held.driven) }
-    ensures { (held : Held) → slice_get slots.old item ≡ Some (Some held)
-        → (slots.new ≡ slice_set slots.old item (Some (record held { driven = levels })))
-        × (result.0 ≡ held_levels held) × (result.1 ≡ held_levels (record held { driven = levels })) }
+// An item that shows its bits, driven strongly, shows others: puts them into the plane, and says what changed.
+fn show_bits(plane: &mut Plane, item: u32, bits: Vec4) -> Option<Change>
+    requires there { item < length plane.old }
+    requires width { length bits ≡ length (slice_index_or plane.old item []) }
+    ensures plane { plane.new ≡ slice_set plane.old item bits }
+    ensures change { IsChange result (strongly (slice_index_or plane.old item [])) (strongly bits) }
+    ensures bits { IfSome result HasBits }
+{
+    let old = plane.get(item);
+    if old.eeq(bits) {
+        return None;
+    }
+    plane.set(item, bits);
+    let _width = bits.width();
+    Some(Change { old, new: bits })
+}
+
+// Whether the plane alone has the value of an item.
+fn is_plain(slots: &[Option<Slot>], item: u32) -> bool
+    requires { (slot : SlotNow) × (slice_get slots.now item ≡ Some (Some slot)) }
+    ensures { result ≡ true → (slot : SlotNow) → slice_get slots.now item ≡ Some (Some slot) → IsPlain slot }
+{
+    match &slots[item as usize] {
+        Some(slot) => slot.is_plain(),
+        None => unreachable!(),
+    }
+}
+
+// Drives an item otherwise, of which the plane has these bits. What it showed, and what it shows.
+fn drive_at(slots: &mut [Option<Slot>], item: u32, bits: Vec4, levels: Vec8) -> (Vec8, Vec8)
+    requires { (slot : SlotNow) × (slice_get slots.old item ≡ Some (Some slot)) × (length bits ≡ length slot.forced) × (length levels ≡ length slot.forced) }
+    ensures { IsChanged (driving levels) slots.old slots.new item bits result.0 result.1 }
 {
     match &mut slots[item as usize] {
         Some(slot) => {
-            let old = slot.shown();
-            slot.drive(levels);
-            (old, slot.shown())
+            let old = slot.shown(bits);
+            let new = slot.drive(levels);
+            (old, new)
         }
         None => unreachable!(),
     }
 }
 
-// Forces every place of an item. What it showed, and what it shows.
-fn force_at(slots: &mut [Option<Slot>], item: u32, levels: Vec8) -> (Vec8, Vec8)
-    requires { (held : Held) × (slice_get slots.old item ≡ Some (Some held)) × (length levels ≡ length held.driven) }
-    ensures { (held : Held) → slice_get slots.old item ≡ Some (Some held)
-        → (slots.new ≡ slice_set slots.old item (Some (record held { forced = map Some levels })))
-        × (result.0 ≡ held_levels held) × (result.1 ≡ held_levels (record held { forced = map Some levels })) }
+// Forces every place of an item, of which the plane has these bits. What it showed, and what it shows.
+fn force_at(slots: &mut [Option<Slot>], item: u32, bits: Vec4, levels: Vec8) -> (Vec8, Vec8)
+    requires { (slot : SlotNow) × (slice_get slots.old item ≡ Some (Some slot)) × (length bits ≡ length slot.forced) × (length levels ≡ length slot.forced) }
+    ensures { IsChanged (forcing levels) slots.old slots.new item bits result.0 result.1 }
 {
     match &mut slots[item as usize] {
         Some(slot) => {
-            let old = slot.shown();
-            slot.force(levels);
-            (old, slot.shown())
+            let old = slot.shown(bits);
+            let new = slot.force(bits, levels);
+            (old, new)
         }
         None => unreachable!(),
     }
 }
 
-// Releases so many places of an item from a base on. What it showed, and what it shows.
+// Releases so many places of an item from a base on, of which the plane has these bits. What it showed, and what it shows.
 fn release_at(
     slots: &mut [Option<Slot>],
     item: u32,
+    bits: Vec4,
     base: u8,
     width: u8,
     keep: bool,
 ) -> (Vec8, Vec8)
-    requires { (held : Held) × (slice_get slots.old item ≡ Some (Some held)) × (length held.forced ≤ 128) }
-    ensures { (held : Held) → slice_get slots.old item ≡ Some (Some held)
-        → (slots.new ≡ slice_set slots.old item (Some (released base width keep held)))
-        × (result.0 ≡ held_levels held) × (result.1 ≡ held_levels (released base width keep held)) }
+    requires { (slot : SlotNow) × (slice_get slots.old item ≡ Some (Some slot)) × (length bits ≡ length slot.forced) × (length slot.forced ≤ 128) }
+    ensures { IsChanged (released base width keep) slots.old slots.new item bits result.0 result.1 }
 {
     match &mut slots[item as usize] {
         Some(slot) => {
-            let old = slot.shown();
-            slot.release(base, width, keep);
-            (old, slot.shown())
+            let old = slot.shown(bits);
+            let new = slot.release(bits, base, width, keep);
+            (old, new)
         }
         None => unreachable!(),
     }
 }
 
 impl Store {
-    /// The values that these slots, words and requests have. The plane shows what the slots show.
+    /// The values that these slots, words and requests have, with the plane that shows them.
     pub(crate) fn new(
         slots: Vec<Option<Slot>>,
         words: Vec<Words>,
         requests: Vec<Request>,
         plane: Plane,
     ) -> Store
-        requires { IsStored slots.items plane }
+        requires { IsKept slots.items plane }
         ensures { result ≡ record {
-          driven = map driven_in slots.items;
-          forced = map forced_in slots.items;
+          driven = map driven_in (helds slots.items plane);
+          forced = map forced_in (helds slots.items plane);
           words = words.items;
           requests = requests.items;
         } }
@@ -205,7 +233,18 @@ impl Store {
         ensures { result ≡ driven_of self.now item }
     {
         match &self.slots[item as usize] {
-            Some(slot) => slot.driven(),
+            Some(slot) => slot.driven(self.plane.get(item)),
+            None => unreachable!(),
+        }
+    }
+
+    /// The bits that what drives an item is seen as.
+    pub(crate) fn driven_bits(&self, item: u32) -> Vec4
+        requires { 1 ≤ length (driven_of self.now item) }
+        ensures { result ≡ seen (driven_of self.now item) }
+    {
+        match &self.slots[item as usize] {
+            Some(slot) => slot.driven_bits(self.plane.get(item)),
             None => unreachable!(),
         }
     }
@@ -216,7 +255,7 @@ impl Store {
         ensures { result ≡ levels_of self.now item }
     {
         match &self.slots[item as usize] {
-            Some(slot) => slot.shown(),
+            Some(slot) => slot.shown(self.plane.get(item)),
             None => unreachable!(),
         }
     }
@@ -233,14 +272,44 @@ impl Store {
     }
 
     /// Drives an item otherwise. What changed, if its levels did.
-    pub(crate) fn drive(&mut self, item: u32, levels: Vec8) -> Option<Change>
+    pub(crate) fn drive(&mut self, item: u32, driver: Driver) -> Option<Change>
+        requires there { 1 ≤ length (driven_of self.old item) }
+        requires width { length (levels_by driver) ≡ length (driven_of self.old item) }
+        ensures values { self.new ≡ with_parts item (levels_by driver) (forced_of self.old item) self.old }
+        ensures change { IsChange result (levels_of self.old item) (levels_of self.new item) }
+        ensures bits { IfSome result HasBits }
+    {
+        match driver {
+            Driver::Bits(bits) => self.drive_bits(item, bits),
+            Driver::Levels(levels) => self.drive_levels(item, levels),
+        }
+    }
+
+    // Drives an item with bits. Where the plane alone has its value, two vectors are compared.
+    fn drive_bits(&mut self, item: u32, bits: Vec4) -> Option<Change>
+        requires there { 1 ≤ length (driven_of self.old item) }
+        requires width { length bits ≡ length (driven_of self.old item) }
+        ensures values { self.new ≡ with_parts item (strongly bits) (forced_of self.old item) self.old }
+        ensures change { IsChange result (levels_of self.old item) (levels_of self.new item) }
+        ensures bits { IfSome result HasBits }
+    {
+        if is_plain(self.slots.as_slice(), item) {
+            show_bits(&mut self.plane, item, bits)
+        } else {
+            self.drive_levels(item, drive(bits, 6, 6))
+        }
+    }
+
+    // Drives an item with levels.
+    fn drive_levels(&mut self, item: u32, levels: Vec8) -> Option<Change>
         requires there { 1 ≤ length (driven_of self.old item) }
         requires width { length levels ≡ length (driven_of self.old item) }
         ensures values { self.new ≡ with_parts item levels (forced_of self.old item) self.old }
         ensures change { IsChange result (levels_of self.old item) (levels_of self.new item) }
         ensures bits { IfSome result HasBits }
     {
-        let (old, new) = drive_at(self.slots.as_mut_slice(), item, levels);
+        let bits = self.plane.get(item);
+        let (old, new) = drive_at(self.slots.as_mut_slice(), item, bits, levels);
         show(&mut self.plane, item, old, new)
     }
 
@@ -252,7 +321,8 @@ impl Store {
         ensures change { IsChange result (levels_of self.old item) (levels_of self.new item) }
         ensures bits { IfSome result HasBits }
     {
-        let (old, new) = force_at(self.slots.as_mut_slice(), item, drive(value, 6, 6));
+        let bits = self.plane.get(item);
+        let (old, new) = force_at(self.slots.as_mut_slice(), item, bits, drive(value, 6, 6));
         show(&mut self.plane, item, old, new)
     }
 
@@ -265,7 +335,8 @@ impl Store {
         ensures change { IsChange result (levels_of self.old item) (levels_of self.new item) }
         ensures bits { IfSome result HasBits }
     {
-        let (old, new) = release_at(self.slots.as_mut_slice(), item, base, width, keep);
+        let bits = self.plane.get(item);
+        let (old, new) = release_at(self.slots.as_mut_slice(), item, bits, base, width, keep);
         show(&mut self.plane, item, old, new)
     }
 

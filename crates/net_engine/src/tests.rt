@@ -54,18 +54,14 @@ fn make_row(
 
 // Forces four places and releases some. Whether they show and are driven with what the row says.
 fn holds(rt: &impl Abort, alloc: Global, row: &Row) -> Result<bool, AllocError> {
-    let mut slot = Slot::new(
-        alloc,
-        drive(Vec4::from_planes(row.driven.0, row.driven.1, 4), 6, 6),
-    )?;
-    let forced = drive(Vec4::from_planes(row.forced.0, row.forced.1, 4), 6, 6);
-    assert_eq!(rt; forced.width(), slot.driven().width());
-    slot.force(forced);
-    let all = seen(slot.shown()).planes() == row.forced;
-    slot.release(row.base, row.width, row.keep);
-    let shown = seen(slot.shown()).planes() == row.shown;
-    let kept = seen(slot.driven()).planes() == row.kept;
-    Ok(all && shown && kept)
+    let bits = Vec4::from_planes(row.driven.0, row.driven.1, 4);
+    let mut slot = Slot::new(alloc, drive(bits, 6, 6))?;
+    let forced = Vec4::from_planes(row.forced.0, row.forced.1, 4);
+    assert_eq!(rt; forced.width(), bits.width());
+    let all = seen(slot.force(bits, drive(forced, 6, 6))).planes() == row.forced;
+    let shown = seen(slot.release(forced, row.base, row.width, row.keep));
+    let kept = slot.driven_bits(shown).planes() == row.kept;
+    Ok(all && shown.planes() == row.shown && kept)
 }
 
 // 10xz is (0b1010, 0b0011) in planes, 0110 is (0b0110, 0).

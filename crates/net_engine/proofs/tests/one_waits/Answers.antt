@@ -1,4 +1,4 @@
-use Rattle.std.proofs.Common.{◌≡◌, ◌<◌, None, length, sym, ap, subst, ◌∙◌, arith}
+use Rattle.std.proofs.Common.{None, length, ap, ◌∙◌, arith}
 use Rattle.std.proofs.lemmas.List.{length-replicate}
 use Rattle.vvp_threads.specs.Keyed.{KeyedTable}
 use Rattle.net_engine.proofs.TestLemmas.{begun, is-ready, now-waits}

@@ -7,5 +7,5 @@ use Rattle.net_engine.proofs.net.Net.assign.Goals as goal
 
 pub change-requires-clause-width : goal.change-requires-clause-width
 change-requires-clause-width g c =
-    ap length c.drive.ensures ∙ length-map c.put-bits.result _ ∙ ap length c.put-bits.ensures ∙ overlaid-length c.seen.result _ c.args.value ∙ ap length c.seen.ensures ∙ length-map c.driven.result _ ∙ ap length c.driven.ensures
+    length-map c.put-bits.result _ ∙ ap length c.put-bits.ensures ∙ overlaid-length c.driven_bits.result _ c.args.value ∙ ap length c.driven_bits.ensures ∙ length-map (driven_of c.self.inside.store c.args.item) _
     ∙ ap (λ (n : NetNow). length (driven_of n.values c.args.item)) c.self.view_is

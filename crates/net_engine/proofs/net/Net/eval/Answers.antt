@@ -1,6 +1,7 @@
 use Rattle.std.proofs.Common.{◌≤◌, ℕ, Some, length, sym, ap, ◌∙◌, subst}
 use Rattle.net_engine.specs.Net.{driven_of, levels_of}
 use Rattle.net_engine.specs.Kept.{NetNow}
+use Rattle.net_engine.specs.Slots.{levels_by}
 use Rattle.net_engine.proofs.RootLemmas.{levels-length}
 use Rattle.net_engine.proofs.CallLemmas.{delay-port, delay-call, gate-call}
 use Rattle.net_engine.proofs.SoundLemmas.{asks-same}
@@ -28,7 +29,7 @@ returns-in-Delay-clause-state g c =
 
 pub returns-in_default : goal.returns-in_default
 returns-in_default g c = record {
-  state = gate-call c.args.self.now c.change.new.self c.self.inside.design c.self.inside.store c.self.inside.marks.items _ c.args.item c.kind.result.now c.output-levels.result c.args.threads.now c.change.new.threads
-      (g.A.Agenda.schedule c.args.agenda.now) (g.A.Agenda.schedule c.change.new.agenda) c.self.view_is c.kind.ensures (λ rise fall decay port e. c.in_default.not-Delay rise fall decay port e) c.output-levels.ensures.value c.change.ensures.state;
+  state = gate-call c.args.self.now c.change.new.self c.self.inside.design c.self.inside.store c.self.inside.marks.items _ c.args.item c.kind.result.now (levels_by c.output-driver.result) c.args.threads.now c.change.new.threads
+      (g.A.Agenda.schedule c.args.agenda.now) (g.A.Agenda.schedule c.change.new.agenda) c.self.view_is c.kind.ensures (λ rise fall decay port e. c.in_default.not-Delay rise fall decay port e) c.output-driver.ensures.value c.change.ensures.state;
   requests = asks-same c.args.self.now.values c.change.new.self.values (c.change.ensures.requests ∙ ap (λ (n : NetNow). n.values.requests) c.self.view_is);
 }

@@ -1,7 +1,5 @@
-use Rattle.std.proofs.Common.{ap, ◌∙◌}
-use Rattle.net_engine.specs.Slots.{held_levels}
-use Rattle.net_engine.proofs.SlotLemmas.{shown-quiet}
+use Rattle.net_engine.proofs.SlotLemmas.{shown-bare}
 use Rattle.net_engine.proofs.slot.Slot.shown.Goals as goal
 
 pub returns-else-self : goal.returns-else-self
-returns-else-self c = shown-quiet c.self.inside.forced.items c.self.inside.driven (c.self.invariant.quiet c.if-self.false) ∙ ap held_levels c.self.view_is
+returns-else-self c = shown-bare c.self.inside.levels c.self.inside.forced.items c.self.inside.any c.args.self.now c.args.bits c.driven-driven.result c.self.invariant c.self.view_is c.if-self.false c.requires c.driven-driven.ensures

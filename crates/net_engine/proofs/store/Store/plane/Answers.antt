@@ -1,5 +1,7 @@
+use Rattle.net_engine.specs.Slots.{helds}
 use Rattle.net_engine.proofs.StepLemmas.{place-read}
 use Rattle.net_engine.proofs.store.Store.plane.Goals as goal
 
 pub returns-clause-places : goal.returns-clause-places
-returns-clause-places c = λ item inside. place-read c.self.inside.slots.items c.self.inside.plane c.self.inside.words.items c.self.inside.requests.items c.args.self.now item c.self.invariant c.self.view_is inside
+returns-clause-places c =
+    λ item inside. place-read (helds c.self.inside.slots.items c.self.inside.plane) c.self.inside.plane c.self.inside.words.items c.self.inside.requests.items c.args.self.now item c.self.invariant.stored c.self.view_is inside
