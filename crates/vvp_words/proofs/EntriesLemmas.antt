@@ -1,0 +1,106 @@
+-- From the texts that the words give to what they say.
+use Rattle.std.proofs.Common.{◌≡◌, ℕ, Bool, true, false, List, codes, Option, Some, None, cond, refl, sym, ap, ◌∙◌}
+use Rattle.std.specs.Prelude.{option_map, option_and_then}
+use Rattle.std.specs.Str.{bytes_eq}
+use Rattle.vvp_words.specs.Command.{Given, given}
+use Rattle.vvp_words.specs.Decimal.{decimal_of}
+use Rattle.vvp_words.specs.Entries.{Entries, Work, File, Workload, entries, entries_of, number_or, work_of}
+
+abbrev pub work_as : Work → Option Work
+work_as work = Some work
+
+abbrev pub no_work : Option Work
+no_work = None
+
+abbrev pub entries_as : Work → ℕ → ℕ → Bool → Option Entries
+entries_as work budget order stats = Some (record { work = work; budget = budget; order = order; stats = stats })
+
+abbrev pub no_entries : Option Entries
+no_entries = None
+
+-- ---- the work
+
+pub work-none : (operand : List ℕ) → work_as (File operand) ≡ work_of None operand
+unfolding work_of
+work-none operand = refl
+
+pub work-run : (mode operand : List ℕ) → bytes_eq mode (codes "run") ≡ true → work_as (File operand) ≡ work_of (Some mode) operand
+unfolding work_of
+work-run mode operand is =
+    sym (ap (λ b. cond b (work_as (File operand)) (cond (bytes_eq mode (codes "workload")) (option_map Workload (decimal_of 4 1 2000 operand)) None)) is)
+
+pub work-load : (mode operand : List ℕ) → bytes_eq mode (codes "run") ≡ false → bytes_eq mode (codes "workload") ≡ true
+    → option_map Workload (decimal_of 4 1 2000 operand) ≡ work_of (Some mode) operand
+unfolding work_of
+work-load mode operand other is =
+    let numbered : Option Work = option_map Workload (decimal_of 4 1 2000 operand) in
+    sym (ap (λ b. cond b (work_as (File operand)) (cond (bytes_eq mode (codes "workload")) numbered None)) other
+    ∙ ap (λ b. cond b numbered None) is)
+
+pub work-other : (mode operand : List ℕ) → bytes_eq mode (codes "run") ≡ false → bytes_eq mode (codes "workload") ≡ false → no_work ≡ work_of (Some mode) operand
+unfolding work_of
+work-other mode operand run load =
+    let numbered : Option Work = option_map Workload (decimal_of 4 1 2000 operand) in
+    sym (ap (λ b. cond b (work_as (File operand)) (cond (bytes_eq mode (codes "workload")) numbered None)) run
+    ∙ ap (λ b. cond b numbered None) load)
+
+-- ---- the numbers
+
+pub number-none : (usual : ℕ) → (let some : Option ℕ = Some usual in some) ≡ number_or None usual
+unfolding number_or
+number-none usual = refl
+
+pub number-some : (text : List ℕ) (usual : ℕ) → decimal_of 10 0 4294967295 text ≡ number_or (Some text) usual
+unfolding number_or
+number-some text usual = refl
+
+-- ---- all of it
+
+abbrev built : Bool → Option Work → Option ℕ → Option ℕ → Option Entries
+built stats work budget order =
+    option_and_then (λ (w : Work).
+    option_and_then (λ (b : ℕ).
+    option_map (λ (o : ℕ). record { work = w; budget = b; order = o; stats = stats })
+    order)
+    budget)
+    work
+
+entries-built : (g : Given) → built g.stats (work_of g.mode g.operand) (number_or g.events 10000000) (number_or g.order 0) ≡ entries_of g
+unfolding entries_of
+entries-built g = refl
+
+pub entries-some : (g : Given) (work : Work) (budget order : ℕ) → work_as work ≡ work_of g.mode g.operand → Some budget ≡ number_or g.events 10000000
+    → Some order ≡ number_or g.order 0 → entries_as work budget order g.stats ≡ entries_of g
+entries-some g work budget order work_is budget_is order_is =
+    ap (λ (o : Option ℕ). built g.stats (Some work) (Some budget) o) order_is
+    ∙ ap (λ (b : Option ℕ). built g.stats (Some work) b (number_or g.order 0)) budget_is
+    ∙ ap (λ (w : Option Work). built g.stats w (number_or g.events 10000000) (number_or g.order 0)) work_is
+    ∙ entries-built g
+
+pub entries-no_work : (g : Given) → no_work ≡ work_of g.mode g.operand → no_entries ≡ entries_of g
+entries-no_work g work_is =
+    ap (λ (w : Option Work). built g.stats w (number_or g.events 10000000) (number_or g.order 0)) work_is ∙ entries-built g
+
+pub entries-no_budget : (g : Given) (work : Work) → work_as work ≡ work_of g.mode g.operand → None ≡ number_or g.events 10000000 → no_entries ≡ entries_of g
+entries-no_budget g work work_is budget_is =
+    ap (λ (b : Option ℕ). built g.stats (Some work) b (number_or g.order 0)) budget_is
+    ∙ ap (λ (w : Option Work). built g.stats w (number_or g.events 10000000) (number_or g.order 0)) work_is
+    ∙ entries-built g
+
+pub entries-no_order : (g : Given) (work : Work) (budget : ℕ) → work_as work ≡ work_of g.mode g.operand → Some budget ≡ number_or g.events 10000000
+    → None ≡ number_or g.order 0 → no_entries ≡ entries_of g
+entries-no_order g work budget work_is budget_is order_is =
+    ap (λ (o : Option ℕ). built g.stats (Some work) (Some budget) o) order_is
+    ∙ ap (λ (b : Option ℕ). built g.stats (Some work) b (number_or g.order 0)) budget_is
+    ∙ ap (λ (w : Option Work). built g.stats w (number_or g.events 10000000) (number_or g.order 0)) work_is
+    ∙ entries-built g
+
+-- ---- from the words
+
+pub said : (words : List (List ℕ)) (g : Given) → given words ≡ Some g → entries words ≡ entries_of g
+unfolding entries
+said words g is = ap (λ (x : Option Given). option_and_then entries_of x) is
+
+pub nothing_said : (words : List (List ℕ)) → given words ≡ None → entries words ≡ None
+unfolding entries
+nothing_said words is = ap (λ (x : Option Given). option_and_then entries_of x) is

@@ -1,0 +1,34 @@
+use Rattle.std.proofs.Common.{ℕ, List, Option, Bor, sym, ap, ◌∙◌}
+use Rattle.std.specs.Prelude.{option_map}
+use Rattle.vvp_words.specs.Decimal.{decimal_of}
+use Rattle.vvp_words.specs.Entries.{File, Workload, work_of}
+use Rattle.vvp_words.proofs.EntriesLemmas.{work_as, work-load, work-none, work-other, work-run}
+use Rattle.vvp_words.proofs.entries.work_of.Goals as goal
+
+pub returns-in_default-clause-work : goal.returns-in_default-clause-work
+returns-in_default-clause-work c =
+    ap (λ (name : List ℕ). work_as (File name)) c.as_bytes.ensures.value ∙ work-none c.args.operand.now
+    ∙ ap (λ (m : Option (Bor (List ℕ))). work_of (option_map (λ s. s.now) m) c.args.operand.now) (sym c.in_default.is)
+
+pub returns-then-eq-clause-work : goal.returns-then-eq-clause-work
+returns-then-eq-clause-work c =
+    ap (λ (name : List ℕ). work_as (File name)) c.as_bytes-then-eq.ensures.value
+    ∙ work-run c.in-Some.mode.now c.args.operand.now (sym c.eq.ensures ∙ c.if-eq.true)
+    ∙ ap (λ (m : Option (Bor (List ℕ))). work_of (option_map (λ s. s.now) m) c.args.operand.now) (sym c.in-Some.is)
+
+pub returns-in-None-clause-work : goal.returns-in-None-clause-work
+returns-in-None-clause-work c =
+    ap (λ (size : Option ℕ). option_map Workload size) (c.in-None.ensures.number ∙ ap (decimal_of 4 1 2000) c.as_bytes-then-eq-2.ensures.value)
+    ∙ work-load c.in-Some.mode.now c.args.operand.now (sym c.eq.ensures ∙ c.if-eq.false) (sym c.eq-2.ensures ∙ c.if-eq-2.true)
+    ∙ ap (λ (m : Option (Bor (List ℕ))). work_of (option_map (λ s. s.now) m) c.args.operand.now) (sym c.in-Some.is)
+
+pub returns-in-Some-decimal-clause-work : goal.returns-in-Some-decimal-clause-work
+returns-in-Some-decimal-clause-work c =
+    ap (λ (size : Option ℕ). option_map Workload size) (c.in-Some-decimal.ensures.number ∙ ap (decimal_of 4 1 2000) c.as_bytes-then-eq-2.ensures.value)
+    ∙ work-load c.in-Some.mode.now c.args.operand.now (sym c.eq.ensures ∙ c.if-eq.false) (sym c.eq-2.ensures ∙ c.if-eq-2.true)
+    ∙ ap (λ (m : Option (Bor (List ℕ))). work_of (option_map (λ s. s.now) m) c.args.operand.now) (sym c.in-Some.is)
+
+pub returns-clause-work : goal.returns-clause-work
+returns-clause-work c =
+    work-other c.in-Some.mode.now c.args.operand.now (sym c.eq.ensures ∙ c.if-eq.false) (sym c.eq-2.ensures ∙ c.if-eq-2.false)
+    ∙ ap (λ (m : Option (Bor (List ℕ))). work_of (option_map (λ s. s.now) m) c.args.operand.now) (sym c.in-Some.is)

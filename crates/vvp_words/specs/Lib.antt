@@ -1,0 +1,5 @@
+pub mod Command
+pub mod Decimal
+pub mod Entries
+pub mod Seen
+pub mod Sizes
