@@ -1,184 +1,243 @@
-//! Small runs over the time wheel, worked out by hand.
-ghost use Rattle.std.specs.Prelude.{◌≡◌, ◌≤◌, ◌^◌, [], ◌∷◌, length, IfOk, IsTrue, None};
-ghost use Rattle.std.specs.List.{list_all};
-ghost use Rattle.sim_core.specs.Opcodes.{fits};
+//! Small designs, run over the wheel and the chains.
 
-use crate::{EarlyCode, EarlyOp, EarlyProgram, Ending, Engine, Places, TrapKind, run};
-use four_state::{Bit, Vec4, Widths};
+ghost use Rattle.std.specs.Prelude.{◌≡◌, ◌<◌, ℕ, None, length, IfOk};
+ghost use Rattle.sym_link.specs.Roots.{nodes_of};
+ghost use Rattle.sym_link.specs.Sound.{IsProgram};
+ghost use Rattle.port_chain.specs.Pairs.{pairs_of};
+ghost use Rattle.net_engine.specs.Readers.{driven_ports};
+
+use crate::{Engine, run, state_orders};
+use net_engine::reader_list;
+use port_chain::ChainFanout;
 use std::alloc::{AllocError, Global};
 use std::test::Fail;
+use sym_link::{Program, link, read_statements};
 use time_wheel::Wheel;
-use vvp_lex::Bytes;
+use vvp_lex::statements;
 
-// What a run came to.
-#[derive(Drop)]
-struct Outcome {
-    ending: Option<Ending>,
-    engine: Engine<Wheel>,
-}
-
-// Whether the opcode names none but one of the first `count` variables.
-fn names_one(op: &EarlyOp, count: usize) -> bool
-    ensures { result ≡ fits count op.now }
+// The program of a small file.
+fn linked(alloc: Global, src: &[u8]) -> Result<Program, Fail>
+    ensures { IfOk result IsProgram }
 {
-    match op {
-        EarlyOp::Load(var) | EarlyOp::ShowBits(var) => (*var as usize) < count,
-        EarlyOp::Store { var, .. } => (*var as usize) < count,
-        _ => true,
+    if 5000 < src.len() {
+        return Err(Fail::from(AllocError));
+    }
+    let found = statements(alloc, src)?;
+    let placed = read_statements(alloc, src, &found)?;
+    match link(alloc, src, placed) {
+        Ok(program) => Ok(program),
+        Err(_fault) => Err(Fail::from(AllocError)),
     }
 }
 
-fn all_fit(code: &[EarlyOp], count: usize) -> bool
-    ensures { result ≡ list_all (fits count) code.now }
+// The readers of a program's items, in chains.
+fn chained(alloc: Global, program: &Program) -> Result<ChainFanout, AllocError>
+    requires { IsProgram program.now }
+    ensures nodes { IfOk result (λ fan. length fan ≡ length program.now.items) }
+    ensures pairs { IfOk result (λ fan. (item : ℕ) → item < length program.now.items → pairs_of fan item ≡ driven_ports (nodes_of program.now) item) }
 {
-    code.iter().all(|op| names_one(op, count))
+    let readers = reader_list(alloc, program)?;
+    let count = program.items.as_slice().len() as u32;
+    ChainFanout::build(alloc, count, readers.as_slice())
 }
 
-// The widths of one variable of two bits.
-fn one_width(alloc: Global) -> Result<Widths, AllocError>
-    ensures { IfOk result (λ widths. widths ≡ 2 ∷ []) }
-{
-    let mut widths = Widths::new(alloc);
-    widths.push(2)?;
-    Ok(widths)
-}
-
-// A run that starts, of a program with one variable of two bits.
-fn start(alloc: Global, code: Vec<EarlyOp>, starts: &[u32]) -> Result<Engine<Wheel>, AllocError>
-    requires fits { IsTrue (list_all (fits 1) code.items) }
-    requires short { length code.items ≤ 2 ^ 20 }
-    ensures going { IfOk result (λ engine. engine.machine.ending ≡ None) }
+// A run of a file that starts.
+fn loaded(alloc: Global, src: &[u8], order: u32) -> Result<Engine<Wheel, ChainFanout>, Fail>
+    ensures ending { IfOk result (λ engine. engine.machine.ending ≡ None) }
     ensures steps { IfOk result (λ engine. engine.machine.steps ≡ 0) }
 {
-    let program = EarlyProgram {
-        widths: one_width(alloc)?,
-        code: EarlyCode::from_vec(code),
-        starts: Places::from_vec(starts.to_vec(alloc)?),
-    };
-    Engine::load(alloc, program, Wheel::new(alloc)?)
+    let wheel = Wheel::new(alloc)?;
+    let program = linked(alloc, src)?;
+    let fan = chained(alloc, &program)?;
+    Ok(Engine::load(alloc, program, wheel, fan, order)?)
 }
 
-// A run that starts; none where its code does not fit.
-fn start_small(
-    alloc: Global,
-    code: Vec<EarlyOp>,
-    starts: &[u32],
-) -> Result<Option<Engine<Wheel>>, AllocError> {
-    if code.len() > 100 || !all_fit(&code, 1) {
-        return Ok(None);
+// Runs a file for at most 100 steps, the first of them by itself. False where the first ends the run.
+fn goes_on(engine: &mut Engine<Wheel, ChainFanout>) -> Result<bool, AllocError>
+    requires ending { engine.old.machine.ending ≡ None }
+    requires steps { engine.old.machine.steps ≡ 0 }
+{
+    if engine.step()?.is_some() {
+        return Ok(false);
     }
-    Ok(Some(start(alloc, code, starts)?))
+    let _ending = run(engine, 99)?;
+    Ok(true)
 }
 
-// A step of a run that has done fewer than 100.
-fn next(engine: &mut Engine<Wheel>) -> Result<Option<Ending>, AllocError> {
-    if engine.steps() >= 100 {
-        return Err(AllocError);
-    }
-    engine.step()
+// Whether a run did so many steps, is at this time, had at most so many dues pending, and printed this.
+fn tells(engine: &Engine<Wheel, ChainFanout>, row: &Row) -> bool {
+    engine.steps() == row.steps
+        && engine.now() == row.now
+        && engine.peak() == row.peak
+        && engine.out() == row.out
+        && !engine.idle()
 }
 
-// Runs a program with one variable of two bits; none where its code does not fit.
-fn run_small(
-    alloc: Global,
-    code: Vec<EarlyOp>,
-    starts: &[u32],
-    budget: u16,
-) -> Result<Option<Outcome>, AllocError> {
-    if code.len() > 100 || !all_fit(&code, 1) {
-        return Ok(None);
-    }
-    let mut engine = start(alloc, code, starts)?;
-    let ending = run(&mut engine, u64::from(budget))?;
-    Ok(Some(Outcome { ending, engine }))
+// Takes away what was printed and dumped. Whether nothing of it is left, and nothing was dumped.
+fn hands_over(engine: &mut Engine<Wheel, ChainFanout>) -> bool {
+    engine.clear_out();
+    engine.clear_dump();
+    engine.out().is_empty() && engine.dump().is_empty() && engine.dump_name().is_none()
 }
 
-// How a program with one thread ends within 1,000 steps.
-fn ending_of(alloc: Global, code: Vec<EarlyOp>) -> Result<Option<Ending>, AllocError> {
-    Ok(run_small(alloc, code, &[0], 1000)?.and_then(|run| run.ending))
+// Whether a file runs as its row says.
+fn runs(alloc: Global, row: &Row) -> Result<bool, Fail> {
+    let mut engine = loaded(alloc, row.src, row.order)?;
+    Ok(goes_on(&mut engine)? && tells(&engine, row) && hands_over(&mut engine))
 }
 
-fn trap(kind: TrapKind, address: u32) -> Option<Ending> {
-    Some(Ending::Trap { kind, address })
+// The law of orders.
+fn orders() {
+    state_orders();
 }
 
-// 2'b10
-fn two() -> Vec4 {
-    Vec4::from_planes(2, 0, 2)
+struct Row {
+    src: &'static [u8],
+    order: u32,
+    steps: u64,
+    now: u64,
+    peak: u64,
+    out: &'static [u8],
 }
+
+#[rattlefmt::skip]
+const DELAYED: &[u8] = b"S_1 .scope module, \"m\" \"m\" 1 1;
+v_0 .var \"v\", 0 0;
+d_0 .delay 1 (3, 5, 2) v_0;
+n_0 .net \"n\", 0 0, d_0;
+T_0 ;
+ %vpi_call 1 1 \"$monitor\", \"%0t %b\", $time, n_0 {0 0 0};
+ %pushi/vec4 1, 0, 1;
+ %store/vec4 v_0, 0, 1;
+ %delay 10, 0;
+ %pushi/vec4 0, 0, 1;
+ %store/vec4 v_0, 0, 1;
+ %delay 2, 0;
+ %pushi/vec4 1, 0, 1;
+ %store/vec4 v_0, 0, 1;
+ %delay 1, 0;
+ %pushi/vec4 0, 0, 1;
+ %store/vec4 v_0, 0, 1;
+ %delay 20, 0;
+ %end;
+ .thread T_0;
+";
+
+#[rattlefmt::skip]
+const RING: &[u8] = b"S_1 .scope module, \"m\" \"m\" 1 1;
+v_0 .var \"en\", 0 0;
+L_1 .functor NAND 1, v_0, L_2;
+L_2 .functor BUF 1, L_1;
+T_0 ;
+ %pushi/vec4 0, 0, 1;
+ %store/vec4 v_0, 0, 1;
+ %delay 1, 0;
+ %pushi/vec4 1, 0, 1;
+ %store/vec4 v_0, 0, 1;
+ %vpi_call 1 1 \"$display\", \"on\" {0 0 0};
+ %delay 1, 0;
+ %vpi_call 1 1 \"$display\", \"off\" {0 0 0};
+ %end;
+ .thread T_0;
+";
+
+#[rattlefmt::skip]
+const SWAPPED: &[u8] = b"S_1 .scope module, \"m\" \"m\" 1 1;
+v_0 .var \"v\", 1 0;
+v_1 .var \"w\", 1 0;
+T_0 ;
+ %pushi/vec4 1, 0, 2;
+ %store/vec4 v_0, 0, 2;
+ %pushi/vec4 2, 0, 2;
+ %store/vec4 v_1, 0, 2;
+ %load/vec4 v_0;
+ %assign/vec4 v_1, 0;
+ %load/vec4 v_1;
+ %assign/vec4 v_0, 0;
+ %delay 1, 0;
+ %vpi_call 1 1 \"$display\", \"%0d %0d\", v_0, v_1 {0 0 0};
+ %end;
+ .thread T_0;
+";
+
+#[rattlefmt::skip]
+const RACED: &[u8] = b"S_1 .scope module, \"m\" \"m\" 1 1;
+v_0 .var \"v\", 1 0;
+T_0 ;
+ %pushi/vec4 1, 0, 2;
+ %store/vec4 v_0, 0, 2;
+ %end;
+ .thread T_0;
+T_1 ;
+ %pushi/vec4 2, 0, 2;
+ %store/vec4 v_0, 0, 2;
+ %end;
+ .thread T_1;
+T_2 ;
+ %delay 1, 0;
+ %vpi_call 1 1 \"$display\", \"%0d\", v_0 {0 0 0};
+ %vpi_call 1 1 \"$finish\" {0 0 0};
+ %end;
+ .thread T_2;
+";
+
+#[rattlefmt::skip]
+const FAMILY: &[u8] = b"S_1 .scope module, \"m\" \"m\" 1 1;
+S_2 .scope fork, \"c\" \"c\" 1 1, 1 1 1, S_1;
+S_3 .scope fork, \"d\" \"d\" 1 1, 1 1 1, S_1;
+S_4 .scope fork, \"e\" \"e\" 1 1, 1 1 1, S_1;
+ .scope S_1;
+T_0 ;
+ %fork T_1, S_2;
+ %fork T_2, S_3;
+ %fork T_3, S_4;
+ %join;
+ %join;
+ %join;
+ %vpi_call 1 1 \"$display\", \"joined %0t\", $time {0 0 0};
+ %end;
+ .thread T_0;
+ .scope S_2;
+T_1 %delay 2, 0;
+ %vpi_call 1 1 \"$display\", \"one\" {0 0 0};
+ %end;
+ .scope S_3;
+T_2 %delay 100, 0;
+ %vpi_call 1 1 \"$display\", \"two\" {0 0 0};
+ %end;
+ .scope S_4;
+T_3 %delay 1, 0;
+ %disable S_3;
+ %vpi_call 1 1 \"$display\", \"three\" {0 0 0};
+ %end;
+";
+
+#[rattlefmt::skip]
+const TRAPPED: &[u8] = b"S_1 .scope module, \"m\" \"m\" 1 1;
+T_0 ;
+ %pushi/vec4 1, 0, 3;
+ %pushi/vec4 1, 0, 4;
+ %add;
+ %end;
+ .thread T_0;
+";
+
+#[rattlefmt::skip]
+const ROWS: [Row; 7] = [
+    Row { src: DELAYED, order: 0, steps: 27, now: 33, peak: 3, out: b"0 x\n3 1\n18 0\n" },
+    Row { src: RING, order: 0, steps: 100, now: 1, peak: 3, out: b"on\n" },
+    Row { src: SWAPPED, order: 0, steps: 15, now: 1, peak: 3, out: b"2 1\n" },
+    Row { src: RACED, order: 0, steps: 13, now: 1, peak: 3, out: b"2\n" },
+    Row { src: RACED, order: 7, steps: 13, now: 1, peak: 3, out: b"1\n" },
+    Row { src: FAMILY, order: 0, steps: 25, now: 100, peak: 3, out: b"three\none\njoined 2\n" },
+    Row { src: TRAPPED, order: 0, steps: 4, now: 0, peak: 1, out: b"" },
+];
 
 #[test]
-fn threads_wait_and_read(rt: HostRuntime) -> Result<(), Fail> {
-    let alloc = rt.alloc();
-    let mut code = Vec::new(alloc);
-    code.push(EarlyOp::Delay(2))?;
-    code.push(EarlyOp::ShowBits(0))?;
-    code.push(EarlyOp::End)?;
-    code.push(EarlyOp::Push(two()))?;
-    code.push(EarlyOp::Delay(1))?;
-    code.push(EarlyOp::Store { var: 0, width: 2 })?;
-    code.push(EarlyOp::End)?;
-    code.push(EarlyOp::Delay(0))?;
-    code.push(EarlyOp::ShowBits(0))?;
-    code.push(EarlyOp::End)?;
-    let run = run_small(alloc, code, &[0, 3, 7], 100)?.ok_or("unfit")?;
-    assert_eq!(rt; run.ending, Some(Ending::Idle));
-    assert_eq!(rt; run.engine.out(), b"xx\n10\n".as_slice());
-    assert_eq!(rt; run.engine.now(), 2);
-    assert_eq!(rt; run.engine.steps(), 16);
-    assert_eq!(rt; run.engine.peak(), 3);
-    Ok(())
-}
-
-#[test]
-fn traps_tell_their_place(rt: HostRuntime) -> Result<(), Fail> {
-    let alloc = rt.alloc();
-    let store = vec![in alloc; EarlyOp::Store { var: 0, width: 2 }]?;
-    assert_eq!(rt; ending_of(alloc, store)?, trap(TrapKind::StackUnder, 0));
-    let wide = Vec4::splat(Bit::One, 3);
-    let store = vec![in alloc; EarlyOp::Push(wide), EarlyOp::Store { var: 0, width: 2 }]?;
-    assert_eq!(rt; ending_of(alloc, store)?, trap(TrapKind::Width, 1));
-    let delay = vec![in alloc; EarlyOp::Delay(1)]?;
-    assert_eq!(rt; ending_of(alloc, delay)?, trap(TrapKind::OffEnd, 1));
-    let delays = vec![in alloc; EarlyOp::Delay(1), EarlyOp::Delay(u64::MAX)]?;
-    assert_eq!(rt; ending_of(alloc, delays)?, trap(TrapKind::TimeOver, 1));
-    let loads = vec![in alloc; EarlyOp::Load(0), EarlyOp::Jump(0)]?;
-    assert_eq!(rt; ending_of(alloc, loads)?, trap(TrapKind::StackOver, 0));
-    Ok(())
-}
-
-#[test]
-fn budgets_end_runs(rt: HostRuntime) -> Result<(), Fail> {
-    let alloc = rt.alloc();
-    let jump = vec![in alloc; EarlyOp::Jump(0)]?;
-    let run = run_small(alloc, jump, &[0], 5)?.ok_or("unfit")?;
-    assert_eq!(rt; run.ending, None);
-    assert_eq!(rt; run.engine.steps(), 5);
-    for (budget, ending) in [(4, None), (5, Some(Ending::Finish))] {
-        let text = Bytes::from_slice(alloc, b"hi")?;
-        let show = vec![in alloc; EarlyOp::Delay(2), EarlyOp::Show(text), EarlyOp::Finish]?;
-        let run = run_small(alloc, show, &[0], budget)?.ok_or("unfit")?;
-        assert_eq!(rt; run.ending, ending, "after {budget} steps");
-        assert_eq!(rt; run.engine.out(), b"hi\n".as_slice());
-        assert!(rt; !run.engine.idle());
+fn designs(rt: HostRuntime) -> Result<(), Fail> {
+    orders();
+    for row in &ROWS {
+        assert!(rt; runs(rt.alloc(), row)?);
     }
-    let run = run_small(alloc, Vec::new(alloc), &[], 0)?.ok_or("unfit")?;
-    assert_eq!(rt; run.ending, Some(Ending::Idle));
-    assert_eq!(rt; run.engine.steps(), 0);
-    Ok(())
-}
-
-#[test]
-fn steps_go_on_or_end(rt: HostRuntime) -> Result<(), Fail> {
-    let alloc = rt.alloc();
-    let jump = vec![in alloc; EarlyOp::Jump(0)]?;
-    let mut engine = start_small(alloc, jump, &[0])?.ok_or("unfit")?;
-    for _ in 0..5 {
-        assert_eq!(rt; next(&mut engine)?, None);
-    }
-    assert_eq!(rt; engine.steps(), 5);
-    let mut engine = start_small(alloc, Vec::new(alloc), &[])?.ok_or("unfit")?;
-    assert!(rt; engine.idle());
-    assert_eq!(rt; next(&mut engine)?, Some(Ending::Idle));
     Ok(())
 }

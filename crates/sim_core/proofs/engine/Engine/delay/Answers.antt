@@ -1,40 +1,30 @@
-use Rattle.std.proofs.Common.{◌≡◌, ℕ, ◌+◌, ◌<◌, ◌^◌, refl, sym, ◌∙◌, ap, subst, [], ◌∷◌, ◌++◌, arith, map, eq-eqb}
-use Rattle.std.proofs.lemmas.Bool.{lt-ltb}
-use Rattle.event_pool.specs.declared.agenda.Due.{Due}
-use Rattle.event_pool.specs.declared.agenda.Act.TheVariants.{Run}
-use Rattle.event_pool.specs.Order.{in_order}
-use Rattle.sim_core.specs.Engine.{unkeyed}
-use Rattle.sim_core.specs.Machine.{delay_region, run_of}
-use denote.Param.{param}
-use Rattle.sim_core.specs.contracts.engine.Engine.{the_view}
-use Rattle.sim_core.proofs.Effects.{delayed-agrees}
-use Rattle.sim_core.proofs.Keyed.{put-keyed}
-use Rattle.sim_core.proofs.Standing.{put-stands}
+use Rattle.std.proofs.Common.{◌≡◌, ◌+◌, ◌<◌, ◌≤◌, ◌^◌, ℕ, sym, ap, subst, ◌∙◌}
+use Rattle.vvp_threads.specs.Table.{with_frame}
+use Rattle.sim_core.specs.Engine.{Shown}
+use Rattle.sim_core.proofs.EffectLemmas.{delayed-past, delayed-then, not-below}
+use Rattle.sim_core.proofs.WholeLemmas.{next-runs}
 use Rattle.sim_core.proofs.engine.Engine.delay.Goals as goal
-use Rattle.sim_core.proofs.engine.Engine.delay.Goals.{then-ticks-eq0, else-ticks-eq0}
 
-pub invariant_of-self : goal.invariant_of-self
-invariant_of-self g c = record {
-  runnable = c.self.invariant.runnable;
-  values_are = c.self.invariant.values_are;
-  has_place = λ x e. absurd (let none : ⊥ = cc in none);
-  has_room = λ x e. absurd (let none : ⊥ = cc in none);
-  keyed = rw c.put.ensures (put-keyed _ _ c.self.invariant.keyed (eq-eqb c.args.key c.args.key refl));
-}
+pub put_run-requires-clause-at : goal.put_run-requires-clause-at
+put_run-requires-clause-at g c =
+    let serial = c.requires.at.0 in
+    let thread = c.requires.at.1 in
+    let can = c.requires.at.2 in
+    (serial, with_frame (record thread.frame { pc = thread.frame.pc + 1 }) thread, next-runs c.args.self.now c.go_next.new.self serial thread can (c.go_next.ensures serial thread can))
 
-pub returns-after-ticks-eq0-clause-follows : goal.returns-after-ticks-eq0-clause-follows
-returns-after-ticks-eq0-clause-follows g c =
-    let s = g.A.Agenda.schedule c.self.inside.agenda in
-    let due : Due = record { time = c.in-Some.time; region = c.if-ticks-eq0.region; act = Run c.args.key c.args.key } in
-    let fits : c.now-now.result + c.args.ticks < 2 ^ 64 = c.in-Some.ensures.0 in
-    let region : c.if-ticks-eq0.region ≡ delay_region c.args.ticks = elim c.if-ticks-eq0.branch [
-      | then-ticks-eq0 w ↦ w.region-is ∙ sym (rw w.if-ticks-eq0.true refl)
-      | else-ticks-eq0 w ↦ let some : 0 < c.args.ticks = omega (arith, w.if-ticks-eq0.false) in w.region-is ∙ sym (rw (lt-ltb 0 c.args.ticks some) refl)
-    ] in
-    let time : c.in-Some.time ≡ s.now + c.args.ticks = c.in-Some.ensures.1 ∙ ap (λ (n : ℕ). n + c.args.ticks) c.now-now.ensures in
-    rw (c.place.ensures, ← c.self.view_is, c.put.ensures) (record {
-      machine = λ dues stands. delayed-agrees (the_view (param 0 g.row.A) g.A.Agenda c.self.inside).machine _ dues c.args.ticks c.args.key c.args.frame c.if-ticks-eq0.region (rw (← c.now-now.ensures) (lt-ltb (c.now-now.result + c.args.ticks) (2 ^ 64) fits)) region
-          (subst (λ (t : ℕ). in_order (dues ++ run_of t c.if-ticks-eq0.region c.args.key ∷ []) ≡ map unkeyed (in_order (s.dues ++ due ∷ []))) time (put-stands s.dues dues due stands));
-      program = refl;
-      failed = refl;
-    })
+pub put_run-requires-clause-time : goal.put_run-requires-clause-time
+put_run-requires-clause-time g c =
+    c.in-Some.ensures.1 ∙ ap (λ (n : ℕ). n + c.args.ticks) (c.now.ensures ∙ ap (λ (s : Shown). s.machine.state.pending.now) c.self.view_is)
+    ∙ ap (λ (s : Shown). s.machine.state.pending.now + c.args.ticks) (sym (c.go_next.ensures c.requires.at.0 c.requires.at.1 c.requires.at.2))
+
+pub returns-in-None : goal.returns-in-None
+returns-in-None g c = λ serial thread can.
+    let now : c.now.result ≡ c.args.self.now.machine.state.pending.now = c.now.ensures ∙ ap (λ (s : Shown). s.machine.state.pending.now) c.self.view_is in
+    delayed-past c.args.ticks serial thread.frame c.args.self.now c.trap.new.self (subst (λ (n : ℕ). 2 ^ 64 ≤ n + c.args.ticks) now (not-below (c.now.result + c.args.ticks) (2 ^ 64) c.in-None.ensures)) (c.trap.ensures serial thread can.runs)
+
+pub returns-in-Some : goal.returns-in-Some
+returns-in-Some g c = λ serial thread can.
+    let now : c.now.result ≡ c.args.self.now.machine.state.pending.now = c.now.ensures ∙ ap (λ (s : Shown). s.machine.state.pending.now) c.self.view_is in
+    let goes = c.go_next.ensures serial thread can in
+    delayed-then c.args.ticks serial thread.frame c.args.self.now c.go_next.new.self c.put_run.new.self (subst (λ (n : ℕ). n + c.args.ticks < 2 ^ 64) now c.in-Some.ensures.0) goes
+    (c.put_run.ensures serial (with_frame (record thread.frame { pc = thread.frame.pc + 1 }) thread) (next-runs c.args.self.now c.go_next.new.self serial thread can goes))

@@ -1,64 +1,39 @@
-use Rattle.std.proofs.Common.{refl, sym, ◌∙◌, ap}
-use Rattle.event_pool.specs.declared.agenda.Region.TheVariants.{Active}
-use Rattle.sim_core.specs.Engine.{is_ready_state}
-use Rattle.sim_core.proofs.Keyed.{settle-keyed}
-use Rattle.sim_core.proofs.Keys.{any-unkeyed}
-use Rattle.sim_core.proofs.Settling.{ready-empty, ready-later, ready-now, state-ready}
-use Rattle.sim_core.specs.contracts.engine.Engine.{the_view}
-use denote.Param.{param}
+use Rattle.std.proofs.Common.{◌≡◌, refl, sym, ap, subst, ◌∙◌}
+use Rattle.std.proofs.lemmas.Result.{err_from_is_err_and}
+use Rattle.sym_link.specs.declared.program.Program.{Program}
+use Rattle.sim_core.specs.Machine.{phase}
+use Rattle.sim_core.specs.Step.{idle}
+use Rattle.sim_core.specs.Engine.{Shown}
+use Rattle.sim_core.proofs.ReadyLemmas.{found-later, found-never, found-now, phase-fails}
 use Rattle.sim_core.proofs.engine.Engine.ready.Goals as goal
 
-pub invariant_of-self : goal.invariant_of-self
-invariant_of-self g c = record {
-  runnable = c.self.invariant.runnable;
-  values_are = c.self.invariant.values_are;
-  has_place = c.self.invariant.has_place;
-  has_room = λ x e. rw c.settle.ensures.schedule (c.self.invariant.has_room x e);
-  keyed = rw c.settle.ensures.schedule (settle-keyed _ _ c.self.invariant.keyed);
-}
+pub returns-in-Ready-clause-ok : goal.returns-in-Ready-clause-ok
+returns-in-Ready-clause-ok g c = found-now c.args.self.now.program c.args.self.now c.settle.new.self c.settle.ensures.follows (sym c.in-Ready.ensures.answer)
 
-pub invariant_of-self-in-TimeEnds : goal.invariant_of-self-in-TimeEnds
-invariant_of-self-in-TimeEnds g c = record {
-  runnable = c.self.invariant.runnable;
-  values_are = c.self.invariant.values_are;
-  has_place = c.self.invariant.has_place;
-  has_room = λ x e. rw (c.settle-in-TimeEnds.ensures.schedule, c.advance.ensures, c.settle.ensures.schedule) (c.self.invariant.has_room x e);
-  keyed = rw (c.settle-in-TimeEnds.ensures.schedule, c.advance.ensures, c.settle.ensures.schedule) (settle-keyed _ _ (settle-keyed _ _ c.self.invariant.keyed));
-}
+pub returns-in_err-phase-in-TimeEnds-clause-err : goal.returns-in_err-phase-in-TimeEnds-clause-err
+returns-in_err-phase-in-TimeEnds-clause-err g c =
+    let p = err_from_is_err_and c.from_residual.result c.from_residual.ensures.1 in
+    rw p.1 (phase-fails c.args.self.now.program c.args.self.now c.settle.new.self c.phase.new.self c.settle.ensures.follows c.settle.ensures.rest (sym c.in-TimeEnds.ensures.answer) refl c.in_err-phase-in-TimeEnds.ensures.err)
 
-pub returns-in-Ready-clause-follows : goal.returns-in-Ready-clause-follows
-returns-in-Ready-clause-follows g c =
-    let state = rw c.settle.ensures.schedule at c.in-Ready.ensures.answer in
-    rw (← c.self.view_is, c.settle.ensures.schedule) (record {
-      machine = λ dues stands. ready-now (the_view (param 0 g.row.A) g.A.Agenda c.self.inside).machine _ dues state stands;
-      program = refl;
-      failed = refl;
-    })
+pub returns-in_ok-phase-in-TimeEnds-clause-ok : goal.returns-in_ok-phase-in-TimeEnds-clause-ok
+returns-in_ok-phase-in-TimeEnds-clause-ok g c =
+    let mid = c.settle.new.self in
+    found-later c.args.self.now.program c.args.self.now mid c.phase.new.self c.advance.new.self c.settle-in-TimeEnds.new.self c.settle.ensures.follows (sym c.in-TimeEnds.ensures.answer) (c.in-TimeEnds.ensures.some refl)
+    (subst (λ (p : Program). c.phase.new.self ≡ record mid { machine = phase p mid.machine }) c.settle.ensures.follows.program c.in_ok-phase-in-TimeEnds.ensures.ok)
+    c.advance.ensures.follows c.settle-in-TimeEnds.ensures.follows
 
-pub returns-in-Ready-clause-answer : goal.returns-in-Ready-clause-answer
-returns-in-Ready-clause-answer g c =
-    let s = g.A.Agenda.schedule c.settle.new.self in
-    ap is_ready_state c.in-Ready.ensures.answer ∙ state-ready s.now s.dues ∙ sym (any-unkeyed Active s.now s.dues)
+pub returns-in_ok-phase-in-TimeEnds-clause-running : goal.returns-in_ok-phase-in-TimeEnds-clause-running
+returns-in_ok-phase-in-TimeEnds-clause-running g c =
+    ap (λ (s : Shown). s.machine.running) c.settle-in-TimeEnds.ensures.rest ∙ ap (λ (s : Shown). s.machine.running) c.advance.ensures.rest
+    ∙ ap (λ (s : Shown). s.machine.running) c.in_ok-phase-in-TimeEnds.ensures.ok ∙ ap (λ (s : Shown). s.machine.running) c.settle.ensures.rest
 
-pub returns-in-TimeEnds-clause-follows : goal.returns-in-TimeEnds-clause-follows
-returns-in-TimeEnds-clause-follows g c =
-    let state = rw c.settle.ensures.schedule at c.in-TimeEnds.ensures.answer in
-    rw (← c.self.view_is, c.settle-in-TimeEnds.ensures.schedule, c.advance.ensures, c.settle.ensures.schedule) (record {
-      machine = λ dues stands. ready-later (the_view (param 0 g.row.A) g.A.Agenda c.self.inside).machine _ _ dues _ refl state refl stands;
-      program = refl;
-      failed = refl;
-    })
+pub returns-in_err-finish-in-Empty-clause-err : goal.returns-in_err-finish-in-Empty-clause-err
+returns-in_err-finish-in-Empty-clause-err g c =
+    let p = err_from_is_err_and c.from_residual-in_err-finish-in-Empty.result c.from_residual-in_err-finish-in-Empty.ensures.1 in
+    rw p.1 (phase-fails c.args.self.now.program c.args.self.now c.settle.new.self c.finish.new.self c.settle.ensures.follows c.settle.ensures.rest (sym c.in-Empty.ensures.answer) refl c.in_err-finish-in-Empty.ensures.err)
 
-pub returns-in-TimeEnds-clause-answer : goal.returns-in-TimeEnds-clause-answer
-returns-in-TimeEnds-clause-answer g c =
-    let s = g.A.Agenda.schedule c.settle-in-TimeEnds.new.self in
-    c.is_ready.ensures ∙ ap is_ready_state c.settle-in-TimeEnds.ensures.answer ∙ state-ready s.now s.dues ∙ sym (any-unkeyed Active s.now s.dues)
-
-pub returns-in-Empty-clause-follows : goal.returns-in-Empty-clause-follows
-returns-in-Empty-clause-follows g c =
-    let state = rw c.settle.ensures.schedule at c.in-Empty.ensures.answer in
-    rw (← c.self.view_is, c.settle.ensures.schedule) (record {
-      machine = λ dues stands. ready-empty (the_view (param 0 g.row.A) g.A.Agenda c.self.inside).machine _ dues state stands;
-      program = refl;
-      failed = refl;
-    })
+pub returns-in_ok-finish-in-Empty-clause-ok : goal.returns-in_ok-finish-in-Empty-clause-ok
+returns-in_ok-finish-in-Empty-clause-ok g c =
+    let mid = c.settle.new.self in
+    found-never c.args.self.now.program c.args.self.now mid c.finish.new.self c.settle.ensures.follows (c.in-Empty.ensures.none refl)
+    (subst (λ (p : Program). c.finish.new.self ≡ record mid { machine = idle (phase p mid.machine) }) c.settle.ensures.follows.program c.in_ok-finish-in-Empty.ensures.ok)

@@ -1,20 +1,20 @@
-use Rattle.std.proofs.Common.{◌≡◌, None, sym, ◌∙◌, ap}
-use Rattle.sim_core.specs.Engine.{Shown}
-use Rattle.sim_core.proofs.Steps.{step-refused, step-running, step-taken, step-waiting}
+use Rattle.std.proofs.Common.{sym, subst}
+use Rattle.sim_core.specs.Engine.{EngineFails, Shown}
+use Rattle.sim_core.specs.Step.{step}
+use Rattle.sim_core.proofs.FailLemmas.{engine-fails, engine-follows}
+use Rattle.sim_core.proofs.SentLemmas.{step-after}
+use Rattle.sim_core.proofs.TurnLemmas.{step-refused}
 use Rattle.sim_core.proofs.engine.Engine.step.Goals as goal
-use Rattle.sim_core.proofs.engine.Engine.step.Goals.{in-Some-running+in-Ok, in-None+then-ready, in-None+else-ready}
-
-pub returns-clause-ok : goal.returns-clause-ok
-returns-clause-ok g c =
-    let old = c.args.self.now in
-    let program = c.args.self.now.program in
-    let going : c.args.self.now.machine.ending ≡ None = ap (λ (s : Shown). s.machine.ending) (sym c.self.view_is) ∙ c.in_default.is in
-    let runs = ap (λ (s : Shown). s.machine.threads.running) c.self.view_is in
-    elim c.match-self-2.branch [
-      | in-Some-running+in-Ok w ↦ rw (w.self-is, w.count.ensures) (step-running program _ old w.run_opcode.new.self going (sym runs ∙ w.in-Some-running.is) w.in-Ok.ensures.ok)
-      | in-None+then-ready w ↦ rw w.self-is (step-taken program old w.ready.new.self w.take_due.new.self going (sym runs ∙ w.in-None.is) w.ready.ensures.follows w.take_due.ensures.follows)
-      | in-None+else-ready w ↦ rw w.self-is (step-waiting program old w.ready.new.self going (sym runs ∙ w.in-None.is) w.ready.ensures.follows (sym w.ready.ensures.answer ∙ w.if-ready.false))
-    ]
 
 pub returns-then-self-clause-err : goal.returns-then-self-clause-err
-returns-then-self-clause-err g c = step-refused c.args.self.now.program c.args.self.now
+returns-then-self-clause-err g c = step-refused c.args.self.now.program c.args.self.now.order c.args.self.now
+
+pub returns-in-Ok-clause-ok : goal.returns-in-Ok-clause-ok
+returns-in-Ok-clause-ok g c =
+    engine-follows (step c.args.self.now.program c.args.self.now.order) c.args.self.now c.go_on.new.self (step-after c.args.self.now.program c.args.self.now.order) c.in-Ok.ensures.ok
+
+pub returns-in-Err-clause-err : goal.returns-in-Err-clause-err
+returns-in-Err-clause-err g c =
+    let k = subst (λ (s : Shown). EngineFails (step c.args.self.now.program c.args.self.now.order) c.args.self.now s) (sym c.self-2.view_is)
+    (engine-fails (step c.args.self.now.program c.args.self.now.order) c.args.self.now c.go_on.new.self (step-after c.args.self.now.program c.args.self.now.order) c.in-Err.ensures.err) in
+    record { out = k.out; dump = k.dump; program = k.program; order = k.order }
