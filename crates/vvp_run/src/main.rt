@@ -4,7 +4,7 @@
 ghost use Rattle.std.specs.IoError.{error_kind};
 ghost use Rattle.std.specs.Prelude.{◌≡◌};
 ghost use Rattle.vvp_top.specs.Ends.{Says};
-ghost use Rattle.vvp_top.specs.Whole.{line_of, status_of};
+ghost use Rattle.vvp_top.specs.Texts.{line_of, status_of};
 
 use std::io::ErrorKind;
 use std::process::ExitCode;

@@ -1,8 +1,5 @@
-pub mod Stated
-pub mod Unread
-pub mod Views
-pub mod LinkRules
-pub mod SecondFile
-pub mod Declares
+pub mod Texts
 pub mod Whole
 pub mod Ends
+pub mod Refusals
+pub mod Delivery

@@ -1,15 +1,21 @@
 //! The program without its runtime: one call over the words, a store and two sinks.
 #![tactic(auto)]
 
-mod link;
+mod delivery;
+mod dump;
+mod fault;
+mod load;
 mod outcome;
-mod program;
+mod pieces;
+mod refusal;
+mod report;
 mod source;
-mod stated;
 mod top;
-mod unread;
+mod verdict;
 
 pub use outcome::Outcome;
+pub use refusal::Why;
+pub use report::{Counts, Report};
 pub use top::vvp_main;
 
 #[cfg(test)]

@@ -1,27 +1,29 @@
 //! How a call of the program ends.
 
 ghost use Rattle.std.specs.Prelude.{◌≡◌};
-ghost use Rattle.std.specs.List.{flat_map};
 ghost use Rattle.vvp_top.specs.Ends.{Says};
-ghost use Rattle.vvp_top.specs.Whole.{fixed_line, line_of, status_of, trap_name};
+ghost use Rattle.vvp_top.specs.Texts.{ending_name, fixed_line, line_of, status_of, trap_name};
 
+use crate::pieces::say_pieces;
+use crate::refusal::Why;
 use itoa::Buffer;
-use sim_core::TrapKind;
-use vvp_edge::{Sink, send_all};
+use op_exec::TrapKind;
+use vvp_edge::Sink;
 
 /// How a call of the program ends.
 #[derive(Clone, Copy, Debug, PartialEq, Eq)]
 pub enum Outcome {
     /// The run ended by `$finish`.
     Finish,
+    /// The run ended by `$stop`.
+    Stop,
     /// The run ended with nothing left to do.
     Idle,
     /// The words aren't those of a call of the program.
     BadWords,
-    /// A statement of the file isn't supported.
-    Unsupported,
-    /// The file has more bytes than a source may have.
-    TooLarge,
+    /// The file has no program. `line` is that on which its first faulty statement begins, counted from 1, or 0 where the file
+    /// as a whole is refused.
+    Refused { line: u32, why: Why },
     /// The run didn't end within its budget of steps.
     Spent,
     /// An opcode couldn't be done. `address` is its place among the opcodes of the file, from 0.
@@ -44,20 +46,11 @@ fn trap_name(kind: TrapKind) -> &'static [u8]
         TrapKind::StackUnder => b"StackUnder",
         TrapKind::StackOver => b"StackOver",
         TrapKind::Width => b"Width",
+        TrapKind::Wide => b"Wide",
+        TrapKind::NoChild => b"NoChild",
         TrapKind::OffEnd => b"OffEnd",
         TrapKind::TimeOver => b"TimeOver",
-    }
-}
-
-// Says pieces one after another, up to the first that fails.
-fn say_pieces<M: Sink>(errs: &mut M, pieces: &[&[u8]])
-    ensures { Says (flat_map (λ piece. piece.now) pieces.now) (M.held errs.old) (M.held errs.new) (M.faults errs.old) (M.faults errs.new) }
-{
-    for piece in pieces {
-        match send_all(errs, piece) {
-            Ok(()) => {}
-            Err(_) => return,
-        }
+        TrapKind::ThreadsOver => b"ThreadsOver",
     }
 }
 
@@ -67,9 +60,9 @@ impl Outcome {
         ensures { result ≡ status_of self }
     {
         match self {
-            Outcome::Finish | Outcome::Idle => 0,
+            Outcome::Finish | Outcome::Stop | Outcome::Idle => 0,
             Outcome::BadWords => 1,
-            Outcome::Unsupported | Outcome::TooLarge => 2,
+            Outcome::Refused { .. } => 2,
             Outcome::Spent => 3,
             Outcome::Trap { .. } => 4,
             Outcome::StoreFault => 5,
@@ -79,21 +72,32 @@ impl Outcome {
         }
     }
 
-    // What is said of it, but for the kind and address of a trap.
+    /// The name of the end of a run, as the line of its counts has it; of any other outcome there is none.
+    pub(crate) fn ending_name(self) -> &'static [u8]
+        ensures { result.now ≡ ending_name self }
+    {
+        match self {
+            Outcome::Finish => b"finish",
+            Outcome::Stop => b"stop",
+            Outcome::Idle => b"idle",
+            Outcome::Spent => b"spent",
+            Outcome::Trap { .. } => b"trap",
+            _ => b"",
+        }
+    }
+
+    // What is said of it, but of a refusal and of a trap, of which more is said.
     fn fixed_line(self) -> &'static [u8]
         ensures { result.now ≡ fixed_line self }
     {
         match self {
-            Outcome::Finish | Outcome::Idle => b"",
             Outcome::BadWords => b"vvp: bad words\n",
-            Outcome::Unsupported => b"vvp: line 0: unsupported statement\n",
-            Outcome::TooLarge => b"vvp: line 0: file too large\n",
             Outcome::Spent => b"vvp: budget spent\n",
-            Outcome::Trap { .. } => b"vvp: trap ",
             Outcome::StoreFault => b"vvp: store fault\n",
             Outcome::OutputFault => b"vvp: output fault\n",
             Outcome::Memory => b"vvp: out of memory\n",
             Outcome::NoFile => b"vvp: no such file\n",
+            _ => b"",
         }
     }
 
@@ -101,14 +105,21 @@ impl Outcome {
     pub fn say<M: Sink>(self, errs: &mut M)
         ensures { Says (line_of self) (M.held errs.old) (M.held errs.new) (M.faults errs.old) (M.faults errs.new) }
     {
-        let line = self.fixed_line();
         match self {
+            Outcome::Refused { line, why } => {
+                let mut digits = Buffer::new();
+                let line = digits.format(line).as_bytes();
+                say_pieces(errs, &[b"vvp: line ", line, b": ", why.text(), b"\n"]);
+            }
             Outcome::Trap { kind, address } => {
                 let mut digits = Buffer::new();
                 let address = digits.format(address).as_bytes();
-                say_pieces(errs, &[line, trap_name(kind), b" at ", address, b"\n"]);
+                say_pieces(
+                    errs,
+                    &[b"vvp: trap ", trap_name(kind), b" at ", address, b"\n"],
+                );
             }
-            _ => say_pieces(errs, &[line]),
+            _ => say_pieces(errs, &[self.fixed_line()]),
         }
     }
 }

@@ -1,27 +1,29 @@
 //! The source that the words name.
 
-ghost use Rattle.std.specs.Prelude.{◌≡◌, ◌≤◌, false, Some, IfOk, IfErr, IfSome, length};
+ghost use Rattle.std.specs.Prelude.{◌≡◌, ◌≤◌, ℕ, false, Some, IfOk, IfErr, IfSome, List};
 ghost use Rattle.std.specs.FinMap as map;
 ghost use Rattle.vvp_edge.specs.Causes.{Rose};
-ghost use Rattle.vvp_edge.specs.declared.store.TheConstants.{MOST_SOURCE};
-ghost use Rattle.vvp_top.specs.Whole.{silent, whole_of_file, yields};
+ghost use Rattle.vvp_edge.specs.Files.{Files};
+ghost use Rattle.vvp_words.specs.Entries.{Entries as Said};
+ghost use Rattle.vvp_words.specs.Seen.{seen_work};
+ghost use Rattle.vvp_words.specs.Sizes.{IsSized};
+ghost use Rattle.vvp_top.specs.Texts.{yields};
+ghost use Rattle.vvp_top.specs.Whole.{silent, whole_of_file, whole_of_source, whole_of_work};
 
 use crate::Outcome;
+use crate::refusal::Why;
 use std::alloc::Global;
 use vvp_edge::{ReadFault, Store, read_source};
+use vvp_words::Work;
+use work_gen::workload;
 
-/// Opens the file of this name and reads it to its end. The files stay.
-pub(crate) fn open_source<S: Store>(
-    alloc: Global,
-    name: &[u8],
-    store: &mut S,
-) -> Result<Vec<u8>, Outcome>
+// Opens the file of this name and reads it to its end. The files stay.
+fn open_source<S: Store>(alloc: Global, name: &[u8], store: &mut S) -> Result<Vec<u8>, Outcome>
     ensures bytes { IfOk result (λ v. IfSome (S.files store.old) (λ files. map.get files name.now ≡ Some v.items)) }
-    ensures fits { IfOk result (λ v. length v.items ≤ MOST_SOURCE) }
     // What is answered in the place of the bytes, unless it is a fault or want of memory.
-    ensures refused { IfErr result (λ ending. yields ending ≡ false → IfSome (S.files store.old) (λ files. whole_of_file (map.get files name.now) ≡ silent ending)) }
-    ensures fault { IfErr result (λ ending. ending ≡ Outcome.StoreFault → Rose (S.faults store.old) (S.faults store.new)) }
-    ensures own { IfErr result (λ ending. (ending ≡ Outcome.OutputFault → ⊥) × (ending ≡ Outcome.BadWords → ⊥)) }
+    ensures refused { IfErr result (λ outcome. yields outcome ≡ false → IfSome (S.files store.old) (λ files. (e : Said) → whole_of_file e (map.get files name.now) ≡ silent outcome)) }
+    ensures fault { IfErr result (λ outcome. outcome ≡ Outcome.StoreFault → Rose (S.faults store.old) (S.faults store.new)) }
+    ensures own { IfErr result (λ outcome. (outcome ≡ Outcome.OutputFault → ⊥) × (outcome ≡ Outcome.BadWords → ⊥)) }
     ensures files { S.files store.new ≡ S.files store.old }
     ensures later { S.faults store.old ≤ S.faults store.new }
 {
@@ -33,7 +35,35 @@ pub(crate) fn open_source<S: Store>(
     match read_source(alloc, store) {
         Ok(bytes) => Ok(bytes),
         Err(ReadFault::Failed) => Err(Outcome::StoreFault),
-        Err(ReadFault::TooLarge) => Err(Outcome::TooLarge),
+        Err(ReadFault::TooLarge) => Err(Outcome::Refused {
+            line: 0,
+            why: Why::TooLarge,
+        }),
         Err(ReadFault::Memory) => Err(Outcome::Memory),
+    }
+}
+
+/// The source that is to be run: the bytes of the file that is named, or the text of a workload, for which the store isn't asked.
+/// The files stay.
+pub(crate) fn source_of<S: Store>(
+    alloc: Global,
+    work: &Work,
+    store: &mut S,
+) -> Result<Vec<u8>, Outcome>
+    requires { IsSized work.now }
+    ensures source { IfOk result (λ v. IfSome (S.files store.old) (λ files. (e : Said) → whole_of_work e (seen_work work.now) files ≡ whole_of_source e v.items)) }
+    // What is answered in the place of the bytes, unless it is a fault or want of memory.
+    ensures refused { IfErr result (λ outcome. yields outcome ≡ false → IfSome (S.files store.old) (λ files. (e : Said) → whole_of_work e (seen_work work.now) files ≡ silent outcome)) }
+    ensures fault { IfErr result (λ outcome. outcome ≡ Outcome.StoreFault → Rose (S.faults store.old) (S.faults store.new)) }
+    ensures own { IfErr result (λ outcome. (outcome ≡ Outcome.OutputFault → ⊥) × (outcome ≡ Outcome.BadWords → ⊥)) }
+    ensures files { S.files store.new ≡ S.files store.old }
+    ensures later { S.faults store.old ≤ S.faults store.new }
+{
+    match work {
+        Work::File(name) => open_source(alloc, name, store),
+        Work::Workload(size) => match workload(alloc, *size) {
+            Err(_) => Err(Outcome::Memory),
+            Ok(text) => Ok(text),
+        },
     }
 }

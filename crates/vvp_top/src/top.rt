@@ -1,123 +1,121 @@
 //! The top call.
 
-ghost use Rattle.std.specs.Prelude.{◌≡◌, ◌⊎◌, ◌≤◌, true, false, None, Some, All, map, string_bytes, length, IfOk, IfErr, IfSome};
-ghost use Rattle.std.specs.Option.{option_map};
-ghost use Rattle.sim_core.specs.Engine.{IsRunnable};
+ghost use Rattle.std.specs.Prelude.{◌≡◌, ◌⊎◌, ◌≤◌, true, false, None, Some, map, string_bytes, IfOk, IfErr, IfSome};
 ghost use Rattle.vvp_edge.specs.Causes.{Rose};
-ghost use Rattle.vvp_edge.specs.declared.store.TheConstants.{MOST_SOURCE};
-ghost use Rattle.vvp_top.specs.Ends.{CutShort, HandedOver, Says};
-ghost use Rattle.vvp_top.specs.Whole.{entries, may_come_anytime, message_at, own_message, run_of, ended, silent, status_of, whole, whole_of_source, yields};
+ghost use Rattle.vvp_words.specs.Entries.{entries};
+ghost use Rattle.vvp_words.specs.Seen.{seen};
+ghost use Rattle.vvp_top.specs.Ends.{CutFiles, CutShort, HandedOver, LeavesFiles, Says};
+ghost use Rattle.vvp_top.specs.Texts.{is_ended, may_come_anytime, message_at, own_message, status_of, yields};
+ghost use Rattle.vvp_top.specs.Whole.{counts_of, ended, silent, whole, whole_of_source};
 
-use crate::Outcome;
-use crate::program::program;
-use crate::source::open_source;
-use crate::unread::Unread;
-use sim_core::{EarlyProgram, Ending, Engine, run};
-use std::alloc::{AllocError, Global};
-use time_wheel::Wheel;
-use vvp_edge::{Sink, Store, send_all};
-
-// The one word, where it doesn't begin with a dash.
-fn file_name(words: &[String]) -> Option<&[u8]>
-    ensures { option_map (λ name. name.now) result ≡ entries (map string_bytes words.now) }
-{
-    match words {
-        [word] => {
-            let name = word.as_bytes();
-            if name.starts_with(b"-") {
-                None
-            } else {
-                Some(name)
-            }
-        }
-        _ => None,
-    }
-}
-
-/// The most steps that a run does.
-const MOST_STEPS: u64 = 10_000_000;
+use crate::delivery::run_engine;
+use crate::load::{Runner, load};
+use crate::source::source_of;
+use crate::verdict::program_of;
+use crate::{Counts, Outcome, Report};
+use sim_core::Ending;
+use std::alloc::Global;
+use vvp_edge::{Sink, Store};
+use vvp_words::{Entries, WordsFault, read_words};
 
 // How a run ended, or that its budget of steps is spent.
 fn ended(ending: Option<Ending>) -> Outcome
     ensures ended { result ≡ ended ending }
-    ensures own { (yields result ≡ false) × (result ≡ Outcome.BadWords → ⊥) }
+    ensures own { is_ended result ≡ true }
 {
     match ending {
         Some(Ending::Finish) => Outcome::Finish,
+        Some(Ending::Stop) => Outcome::Stop,
         Some(Ending::Idle) => Outcome::Idle,
         Some(Ending::Trap { kind, address }) => Outcome::Trap { kind, address },
         None => Outcome::Spent,
     }
 }
 
-// A program that was loaded and run, and how the run ended.
-fn run_program(alloc: Global, program: EarlyProgram) -> Result<(Outcome, Engine<Wheel>), AllocError>
-    requires runnable { IsRunnable program }
-    requires widths { All (λ width. (1 ≤ width) × (width ≤ 128)) program.widths }
-    ensures ran { IfOk result (λ r. run_of program ≡ record { ending = r.0; output = r.1.machine.tasks.out }) }
-    ensures own { IfOk result (λ r. (yields r.0 ≡ false) × (r.0 ≡ Outcome.BadWords → ⊥)) }
+// The counts of a run, where they are wanted.
+fn counts_of(engine: &Runner, stats: bool) -> Option<Counts>
+    ensures { result ≡ counts_of stats engine.now.machine }
 {
-    let agenda = Wheel::new(alloc)?;
-    let mut engine = Engine::load(alloc, program, agenda)?;
-    let ending = run(&mut engine, MOST_STEPS)?;
-    Ok((ended(ending), engine))
-}
-
-// How the run of a source ends, and the engine that ran it, or why nothing was run to its end.
-fn run_source(alloc: Global, source: &[u8]) -> Result<(Outcome, Engine<Wheel>), Outcome>
-    requires { length source.now ≤ MOST_SOURCE }
-    ensures ran { IfOk result (λ r. whole_of_source source.now ≡ record { ending = r.0; output = r.1.machine.tasks.out }) }
-    ensures own { IfOk result (λ r. (yields r.0 ≡ false) × (r.0 ≡ Outcome.BadWords → ⊥)) }
-    ensures refused { IfErr result (λ ending. (ending ≡ Outcome.Memory) ⊎ ((ending ≡ Outcome.Unsupported) × (whole_of_source source.now ≡ silent ending))) }
-{
-    let program = match program(alloc, source) {
-        Err(Unread::Unsupported) => return Err(Outcome::Unsupported),
-        Err(Unread::Memory) => return Err(Outcome::Memory),
-        Ok(program) => program,
-    };
-    run_program(alloc, program).map_err(|_| Outcome::Memory)
-}
-
-// All but the messages.
-fn perform<S: Store, K: Sink>(
-    alloc: Global,
-    words: &[String],
-    store: &mut S,
-    out: &mut K,
-) -> Outcome
-    ensures bad_words { result ≡ Outcome.BadWords → entries (map string_bytes words.now) ≡ None }
-    ensures refused { entries (map string_bytes words.now) ≡ None →
-        ((result ≡ Outcome.BadWords) ⊎ (result ≡ Outcome.Memory)) × (store.new ≡ store.old) × (out.new ≡ out.old) }
-    ensures store_fault { result ≡ Outcome.StoreFault → Rose (S.faults store.old) (S.faults store.new) }
-    ensures output_fault { result ≡ Outcome.OutputFault → Rose (K.faults out.old) (K.faults out.new) }
-    ensures files { S.files store.new ≡ S.files store.old }
-    ensures whole { yields result ≡ false → IfSome (S.files store.old) (λ files. let w = whole (map string_bytes words.now) files in
-        (result ≡ w.ending) × HandedOver w.output (K.held out.old) (K.held out.new)) }
-    ensures cut { yields result ≡ true → IfSome (S.files store.old) (λ files. let w = whole (map string_bytes words.now) files in
-        CutShort w.output (K.held out.old) (K.held out.new)) }
-{
-    let name = match file_name(words) {
-        None => return Outcome::BadWords,
-        Some(name) => name,
-    };
-    let source = match open_source(alloc, name, store) {
-        Err(ending) => return ending,
-        Ok(source) => source,
-    };
-    let (ending, engine) = match run_source(alloc, &source) {
-        Err(ending) => return ending,
-        Ok(run) => run,
-    };
-    match send_all(out, engine.out()) {
-        Err(_) => Outcome::OutputFault,
-        Ok(()) => ending,
+    if stats {
+        Some(Counts {
+            time: engine.now(),
+            steps: engine.steps(),
+            peak: engine.peak(),
+        })
+    } else {
+        None
     }
 }
 
-/// The program without its runtime: reads the file that the words name, runs it, hands over its output and says the
-/// line of its status. Answers the status.
+// Runs the program of a source, if it has one, and hands its output and its dump over.
+fn run_source<S: Store, K: Sink>(
+    alloc: Global,
+    source: &[u8],
+    entries: &Entries,
+    store: &mut S,
+    out: &mut K,
+) -> Result<Report, Outcome>
+    ensures whole { IfOk result (λ report. let w = whole_of_source (seen entries.now) source.now in
+        (report ≡ w.report) × HandedOver w.output (K.held out.old) (K.held out.new) × LeavesFiles w.dump (S.files store.old) (S.files store.new)) }
+    ensures cut { IfErr result (λ outcome. yields outcome ≡ true → let w = whole_of_source (seen entries.now) source.now in
+        CutShort w.output (K.held out.old) (K.held out.new) × CutFiles w.dump (S.files store.old) (S.files store.new)) }
+    ensures refused { IfErr result (λ outcome. yields outcome ≡ false → (whole_of_source (seen entries.now) source.now ≡ silent outcome)
+        × (K.held out.new ≡ K.held out.old) × (S.files store.new ≡ S.files store.old)) }
+    ensures store_fault { IfErr result (λ outcome. outcome ≡ Outcome.StoreFault → Rose (S.faults store.old) (S.faults store.new)) }
+    ensures output_fault { IfErr result (λ outcome. outcome ≡ Outcome.OutputFault → Rose (K.faults out.old) (K.faults out.new)) }
+    ensures own { IfErr result (λ outcome. outcome ≡ Outcome.BadWords → ⊥) }
+    ensures run { IfOk result (λ report. is_ended report.outcome ≡ true) }
+    ensures later { S.faults store.old ≤ S.faults store.new }
+{
+    let program = match program_of(alloc, source) {
+        Err(outcome) => return Err(outcome),
+        Ok(program) => program,
+    };
+    let mut engine = match load(alloc, program, entries.order) {
+        Err(_) => return Err(Outcome::Memory),
+        Ok(engine) => engine,
+    };
+    match run_engine(&mut engine, entries.budget, store, out) {
+        Err(fault) => Err(fault.outcome()),
+        Ok(ending) => Ok(Report {
+            outcome: ended(ending),
+            counts: counts_of(&engine, entries.stats),
+        }),
+    }
+}
+
+// All but the messages.
+fn perform<S: Store, K: Sink>(alloc: Global, words: &[String], store: &mut S, out: &mut K) -> Report
+    ensures bad_words { result.outcome ≡ Outcome.BadWords → entries (map string_bytes words.now) ≡ None }
+    ensures refused { entries (map string_bytes words.now) ≡ None →
+        ((result.outcome ≡ Outcome.BadWords) ⊎ (result.outcome ≡ Outcome.Memory)) × (store.new ≡ store.old) × (out.new ≡ out.old) }
+    ensures store_fault { result.outcome ≡ Outcome.StoreFault → Rose (S.faults store.old) (S.faults store.new) }
+    ensures output_fault { result.outcome ≡ Outcome.OutputFault → Rose (K.faults out.old) (K.faults out.new) }
+    ensures whole { yields result.outcome ≡ false → IfSome (S.files store.old) (λ files. let w = whole (map string_bytes words.now) files in
+        (result ≡ w.report) × HandedOver w.output (K.held out.old) (K.held out.new) × LeavesFiles w.dump (S.files store.old) (S.files store.new)) }
+    ensures cut { yields result.outcome ≡ true → IfSome (S.files store.old) (λ files. let w = whole (map string_bytes words.now) files in
+        CutShort w.output (K.held out.old) (K.held out.new) × CutFiles w.dump (S.files store.old) (S.files store.new)) }
+    ensures bare { is_ended result.outcome ≡ false → result.counts ≡ None }
+{
+    let entries = match read_words(alloc, words) {
+        Err(WordsFault::Refused) => return Report::bare(Outcome::BadWords),
+        Err(WordsFault::Memory) => return Report::bare(Outcome::Memory),
+        Ok(entries) => entries,
+    };
+    let source = match source_of(alloc, &entries.work, store) {
+        Err(outcome) => return Report::bare(outcome),
+        Ok(source) => source,
+    };
+    match run_source(alloc, &source, &entries, store, out) {
+        Err(outcome) => Report::bare(outcome),
+        Ok(report) => report,
+    }
+}
+
+/// The program without its runtime: runs the file, or the workload, that the words name, hands over its output and its dump while it
+/// runs, and says the lines of its status. Answers the status.
 ///
-/// `words` leaves out the program's name. The statuses are those of `Outcome`.
+/// `words` leaves out the program's name. The statuses are those of `Outcome`. In the mode `workload` no file is asked for.
 pub fn vvp_main<S: Store, K: Sink, M: Sink>(
     alloc: Global,
     words: &[String],
@@ -132,25 +130,23 @@ pub fn vvp_main<S: Store, K: Sink, M: Sink>(
     // The fault clause: statuses 5 and 6 come only where the store, or the output, failed in this call.
     ensures store_fault { result ≡ 5 → Rose (S.faults store.old) (S.faults store.new) }
     ensures output_fault { result ≡ 6 → Rose (K.faults out.old) (K.faults out.new) }
-    // The files stay as they were, on every status.
-    ensures files { S.files store.new ≡ S.files store.old }
-    // The exact clause: on every other status the words and the files decide status and output.
+    // The exact clause: on every other status the words and the files decide status, output and files.
     ensures exact { may_come_anytime result ≡ false → IfSome (S.files store.old) (λ files. let w = whole (map string_bytes words.now) files in
-        (result ≡ status_of w.ending) × HandedOver w.output (K.held out.old) (K.held out.new)) }
-    // The prefix clause: on statuses 5, 6 and 7 the output is cut short.
+        (result ≡ status_of w.report.outcome) × HandedOver w.output (K.held out.old) (K.held out.new) × LeavesFiles w.dump (S.files store.old) (S.files store.new)) }
+    // The prefix clause: on statuses 5, 6 and 7 the output is cut short, and so is the dump, if it was begun.
     ensures prefix { may_come_anytime result ≡ true → IfSome (S.files store.old) (λ files. let w = whole (map string_bytes words.now) files in
-        CutShort w.output (K.held out.old) (K.held out.new)) }
-    // The error-line clause: what is said is the status's own line, or that of the words and files.
+        CutShort w.output (K.held out.old) (K.held out.new) × CutFiles w.dump (S.files store.old) (S.files store.new)) }
+    // The error-line clause: what is said is the status's own line, or the lines of what words and files say.
     ensures own_line { IfSome (own_message result) (λ text.
         Says text (M.held errs.old) (M.held errs.new) (M.faults errs.old) (M.faults errs.new)) }
     ensures line { IfSome (S.files store.old) (λ files.
-        Says (message_at result (whole (map string_bytes words.now) files)) (M.held errs.old) (M.held errs.new) (M.faults errs.old) (M.faults errs.new)) }
+        Says (message_at result (whole (map string_bytes words.now) files).report) (M.held errs.old) (M.held errs.new) (M.faults errs.old) (M.faults errs.new)) }
     // Completeness: where neither failed, nothing but want of memory keeps the program from its end.
     ensures complete { (Rose (S.faults store.old) (S.faults store.new) → ⊥) → (Rose (K.faults out.old) (K.faults out.new) → ⊥) →
         IfSome (S.files store.old) (λ files. let w = whole (map string_bytes words.now) files in
-        (result ≡ 7) ⊎ ((result ≡ status_of w.ending) × HandedOver w.output (K.held out.old) (K.held out.new))) }
+        (result ≡ 7) ⊎ ((result ≡ status_of w.report.outcome) × HandedOver w.output (K.held out.old) (K.held out.new) × LeavesFiles w.dump (S.files store.old) (S.files store.new))) }
 {
-    let ending = perform(alloc, words, store, out);
-    ending.say(errs);
-    ending.status()
+    let report = perform(alloc, words, store, out);
+    report.say(errs);
+    report.outcome.status()
 }
