@@ -1,5 +1,5 @@
 -- What a gate of the design drives.
-use Rattle.std.proofs.Common.{◌≡◌, ℕ, ◌≤◌, true, Option, Some, None, List, [], ◌∷◌, length, map, slice_get, refl, sym, ap, subst, ◌∙◌, arith}
+use Rattle.std.proofs.Common.{◌≡◌, ℕ, ◌≤◌, Bool, true, false, Option, Some, None, List, [], ◌∷◌, length, map, slice_get, refl, sym, ap, subst, ◌∙◌, arith}
 use Rattle.std.specs.Prelude.{IfSome}
 use Rattle.std.specs.List.{All}
 use Rattle.std.specs.Option.{option_map}
@@ -81,9 +81,18 @@ gate-output nodes values node kind drive ports width levels result is wide_as sh
     gives ∙ ap (λ (w : ℕ). output kind w drive.0 drive.1 levels) wide_as ∙ ap (λ (ls : List (Option (List Interval))). output kind node.width drive.0 drive.1 ls) shown
     ∙ ap (λ (what : ItemKind). output_of nodes values (record node { what = what })) (sym is)
 
--- the same by bits
+-- what a gate gives by the bits at its ports: it looks at no more, or they are driven strongly
+by-bits : (kind : Gate) (width s0 s1 : ℕ) (levels : List (Option (List Interval))) (bits : List (Option (List Bit))) (result : List Bit) → (looks kind ≡ false → driven_ports 6 6 (seen_ports levels) ≡ levels) → bits ≡ seen_ports levels
+    → output kind width s0 s1 (driven_ports 6 6 bits) ≡ map (driven 6 6) result → strongly result ≡ output kind width s0 s1 levels
+by-bits kind width s0 s1 levels bits result strong shown gives = by (looks kind) refl where
+  by : (look : Bool) → looks kind ≡ look → strongly result ≡ output kind width s0 s1 levels
+  by true is = looks-output kind width s0 s1 levels bits result is shown gives
+  by false is = sym gives ∙ ap (λ (p : List (Option (List Bit))). output kind width s0 s1 (driven_ports 6 6 p)) shown ∙ ap (λ (p : List (Option (List Interval))). output kind width s0 s1 p) (strong is)
+
+-- the same for a gate of the design
 pub bits-output : (nodes : List Node) (values : NetValues) (node : Node) (kind : Gate) (drive : ℕ × ℕ) (ports : List Source) (width : ℕ) (bits : List (Option (List Bit))) (result : List Bit) → node.what ≡ Functor kind drive ports → width ≡ node.width
-    → bits ≡ seen_ports (map (at_source nodes values) ports) → looks kind ≡ true → output kind width drive.0 drive.1 (driven_ports 6 6 bits) ≡ map (driven 6 6) result → strongly result ≡ output_of nodes values node
-bits-output nodes values node kind drive ports width bits result is wide_as shown look gives =
+    → bits ≡ seen_ports (map (at_source nodes values) ports) → (looks kind ≡ false → driven_ports 6 6 (seen_ports (map (at_source nodes values) ports)) ≡ map (at_source nodes values) ports)
+    → output kind width drive.0 drive.1 (driven_ports 6 6 bits) ≡ map (driven 6 6) result → strongly result ≡ output_of nodes values node
+bits-output nodes values node kind drive ports width bits result is wide_as shown strong gives =
     gate-output nodes values node kind drive ports width (map (at_source nodes values) ports) (strongly result) is wide_as refl
-    (looks-output kind width drive.0 drive.1 (map (at_source nodes values) ports) bits result look shown gives)
+    (by-bits kind width drive.0 drive.1 (map (at_source nodes values) ports) bits result strong shown gives)

@@ -6,7 +6,7 @@ use Rattle.std.proofs.lemmas.Option.{slice_get-get_or, get_or_from_slice_get}
 use Rattle.four_state.specs.declared.bits.Bit.{Bit}
 use Rattle.strengths.specs.Interval.{Interval}
 use Rattle.strengths.specs.Level.{driven}
-use Rattle.net_engine.specs.Net.{NetValues, Request, driven_of, seen, strongly}
+use Rattle.net_engine.specs.Net.{NetValues, Request, driven_of, levels_of, seen, strongly}
 use Rattle.net_engine.specs.Delivery.{same_levels}
 use Rattle.net_engine.specs.Slots.{Held, SlotNow, held_levels, held_by, helds, driving, IsPlain, IsChanged, IsKept}
 use Rattle.net_engine.specs.Parts.{IsChange}
@@ -14,7 +14,7 @@ use Rattle.net_engine.proofs.MixLemmas.{set-same}
 use Rattle.net_engine.proofs.SlotLemmas.{shown-quiet, quiet}
 use Rattle.net_engine.proofs.StrongLemmas.{seen-driven, same-by}
 use Rattle.net_engine.proofs.StoreLemmas.{stored}
-use Rattle.net_engine.proofs.StepLemmas.{found, place-there, Stepped, stepped, drive-keeps}
+use Rattle.net_engine.proofs.StepLemmas.{found, place-there, shown-read, Stepped, stepped, drive-keeps}
 
 -- ---- the plane alone
 
@@ -77,3 +77,16 @@ plain-stepped slots slice plane words requests values item bits kept view there 
 -- the plane afterwards
 pub plain-plane : (plane new_plane : List (List Bit)) (item : ℕ) (bits : List Bit) → new_plane ≡ set plane item bits → new_plane ≡ set plane item (seen (strongly bits))
 plain-plane plane new_plane item bits is = is ∙ ap (λ (b : List Bit). set plane item b) (sym (seen-driven bits))
+
+-- ---- reading
+
+-- such an item shows the bits that it is seen as, driven strongly
+pub plain-levels : (slots slice : List (Option SlotNow)) (plane : List (List Bit)) (words : List (List (List Bit))) (requests : List Request) (values : NetValues) (item : ℕ) → IsKept slots plane → stored (helds slots plane) words requests ≡ values
+    → 1 ≤ length (driven_of values item) → slice ≡ slots → ((slot : SlotNow) → slice_get slice item ≡ Some (Some slot) → IsPlain slot) → strongly (seen (levels_of values item)) ≡ levels_of values item
+plain-levels slots slice plane words requests values item kept view there lent says =
+    let old = get_or plane item [] in
+    let read : slice_get plane item ≡ Some old = slice_get-get_or plane item [] (place-there slots plane words requests values item kept view there) in
+    let f = found slots plane words requests values item old kept view there read in
+    let plain = says f.slot (ap (λ (ss : List (Option SlotNow)). slice_get ss item) lent ∙ f.at) in
+    let shown : strongly old ≡ levels_of values item = plain-shown f.slot old plain f.wide ∙ ap held_levels (sym (plain-held f.slot old plain)) ∙ shown-read slots plane words requests values item f.slot old view f.at read in
+    ap (λ (ls : List Interval). strongly (seen ls)) (sym shown) ∙ ap strongly (seen-driven old) ∙ shown

@@ -1,6 +1,7 @@
 -- Bits that are driven as a variable drives them.
 use Rattle.std.proofs.Common.{◌≡◌, ℕ, Bool, true, false, ◌&&◌, Option, Some, None, List, [], ◌∷◌, length, map, refl, sym, ap, ◌∙◌}
 use Rattle.std.proofs.lemmas.List.{length-map}
+use Rattle.std.specs.Option.{option_map}
 use Rattle.std.specs.Cmp.Lexicographic.{pointwise, pointwise_decides}
 use Rattle.four_state.specs.declared.bits.Bit.{Bit}
 use Rattle.four_state.specs.declared.bits.Bit.TheVariants.{Zero, One, Unknown, HighZ}
@@ -101,33 +102,39 @@ looks-seen (gate.Compare kind bits) width s0 s1 a b is same = ap (λ (p : List (
 looks-seen (gate.Shift kind) width s0 s1 a b is same = ap (λ (p : List (Option (List Bit))). map (driven 6 6) (shifted kind (vector_at p 0) (vector_at p 1))) same
 looks-seen (gate.Reduce kind) width s0 s1 a b is same = ap (λ (p : List (Option (List Bit))). map (driven 6 6) (reduced kind (vector_at p 0) ∷ [])) same
 
--- such a gate keeps strong bits strong where it drives strongly
-pub looks-strong : (kind : Gate) → looks kind ≡ true → keeps_strong kind 6 6 ≡ true
-looks-strong gate.And is = refl
-looks-strong gate.Or is = refl
-looks-strong gate.Xor is = refl
-looks-strong gate.Nand is = refl
-looks-strong gate.Nor is = refl
-looks-strong gate.Xnor is = refl
-looks-strong gate.Buf is = refl
-looks-strong gate.Not is = refl
-looks-strong gate.Bufz is = refl
-looks-strong gate.Muxz is = refl
-looks-strong gate.Buft is = cc
-looks-strong (gate.Resolver kind) is = cc
-looks-strong (gate.Part base) is = cc
-looks-strong (gate.PartInto base bits) is = cc
-looks-strong (gate.PartFrom sign) is = cc
-looks-strong (gate.Concat list) is = cc
-looks-strong (gate.Repeat count) is = cc
-looks-strong gate.Extend is = cc
-looks-strong (gate.Arithmetic kind) is = refl
-looks-strong (gate.Compare kind bits) is = refl
-looks-strong (gate.Shift kind) is = refl
-looks-strong (gate.Reduce kind) is = refl
-
 -- what it gives, by the bits at its ports
 pub looks-output : (kind : Gate) (width s0 s1 : ℕ) (levels : List (Option (List Interval))) (bits : List (Option (List Bit))) (result : List Bit) → looks kind ≡ true → bits ≡ seen_ports levels
     → output kind width s0 s1 (driven_ports 6 6 bits) ≡ map (driven 6 6) result → strongly result ≡ output kind width s0 s1 levels
 looks-output kind width s0 s1 levels bits result is shown gives =
     sym gives ∙ looks-seen kind width s0 s1 (driven_ports 6 6 bits) levels is (seen_ports-driven bits ∙ shown)
+
+-- ---- what is driven strongly
+
+-- a constant is
+pub strong-fixed : (bits : List Bit) → option_map strongly (option_map seen (Some (strongly bits))) ≡ Some (strongly bits)
+strong-fixed bits = ap (λ (b : List Bit). Some (strongly b)) (seen-driven bits)
+
+-- a gate that keeps strong bits strong with some strengths does with the strengths 6 and 6
+pub strong-at_six : (kind : Gate) (s0 s1 : ℕ) → keeps_strong kind s0 s1 ≡ true → keeps_strong kind 6 6 ≡ true
+strong-at_six gate.And s0 s1 is = refl
+strong-at_six gate.Or s0 s1 is = refl
+strong-at_six gate.Xor s0 s1 is = refl
+strong-at_six gate.Nand s0 s1 is = refl
+strong-at_six gate.Nor s0 s1 is = refl
+strong-at_six gate.Xnor s0 s1 is = refl
+strong-at_six gate.Buf s0 s1 is = refl
+strong-at_six gate.Not s0 s1 is = refl
+strong-at_six gate.Bufz s0 s1 is = refl
+strong-at_six gate.Muxz s0 s1 is = refl
+strong-at_six gate.Buft s0 s1 is = refl
+strong-at_six (gate.Resolver kind) s0 s1 is = is
+strong-at_six (gate.Part base) s0 s1 is = refl
+strong-at_six (gate.PartInto base bits) s0 s1 is = refl
+strong-at_six (gate.PartFrom sign) s0 s1 is = refl
+strong-at_six (gate.Concat list) s0 s1 is = refl
+strong-at_six (gate.Repeat count) s0 s1 is = refl
+strong-at_six gate.Extend s0 s1 is = refl
+strong-at_six (gate.Arithmetic kind) s0 s1 is = refl
+strong-at_six (gate.Compare kind bits) s0 s1 is = refl
+strong-at_six (gate.Shift kind) s0 s1 is = refl
+strong-at_six (gate.Reduce kind) s0 s1 is = refl

@@ -1,17 +1,17 @@
 //! What gates drive, by the values that their ports have now.
 
-ghost use Rattle.std.specs.Prelude.{◌≡◌, ℕ, ◌<◌, ◌≤◌, true, Some, IfSome, IsTrue, All, length, map, option_map, slice_get};
-ghost use Rattle.gate_rules.specs.Ports.{seen_ports};
+ghost use Rattle.std.specs.Prelude.{◌≡◌, ℕ, ◌<◌, ◌≤◌, true, false, Some, IfSome, IsTrue, All, length, map, option_map, slice_get};
+ghost use Rattle.gate_rules.specs.Ports.{seen_ports, driven_ports};
 ghost use Rattle.gate_rules.specs.Strong.{looks, keeps_strong};
 ghost use Rattle.sym_link.specs.Roots.{Node, kind_of};
-ghost use Rattle.net_engine.specs.Net.{at_source, output_of, seen};
+ghost use Rattle.net_engine.specs.Net.{at_source, output_of, seen, strongly};
 ghost use Rattle.net_engine.specs.Parts.{IsLinked, AreWide, IsShowing, AreShowing, IsGateKind};
 ghost use Rattle.net_engine.specs.Slots.{levels_by};
 
 use crate::design::Design;
 use crate::driver::Driver;
 use crate::store::Store;
-use four_state::Vec4;
+use four_state::{ResKind, Vec4};
 use gate_rules::{eval_gate, eval_strong};
 use port_chain::Fanout;
 use strengths::{Vec8, drive};
@@ -59,10 +59,42 @@ fn at_ports<F: Fanout + Drop>(
     ]
 }
 
-// Whether a gate makes strong bits of the bits that its ports are seen as, whatever their strengths.
-fn is_by_bits(gate: &Gate, drives: (u8, u8)) -> bool
-    ensures looks { result ≡ true → looks gate.now ≡ true }
+// Whether a source drives as a variable does: an item does of which the plane alone has the value.
+fn is_strong<F: Fanout + Drop>(design: &Design<F>, store: &Store, source: &Source) -> bool
+    requires { IsShowing design.now store.now source.now }
+    ensures { result ≡ true → option_map strongly (option_map seen (at_source design.now store.now source.now)) ≡ at_source design.now store.now source.now }
+{
+    match source {
+        Source::Unused => true,
+        Source::Item(item) => store.is_strong(design.root(*item)),
+        Source::Fixed(_bits) => true,
+    }
+}
+
+// Whether each source of a gate drives as a variable does.
+fn are_strong<F: Fanout + Drop>(design: &Design<F>, store: &Store, ports: &Sources) -> bool
+    requires { AreShowing design.now store.now ports.now }
+    ensures { result ≡ true → driven_ports 6 6 (seen_ports (map (at_source design.now store.now) ports.now)) ≡ map (at_source design.now store.now) ports.now }
+{
+    let ports = ports.as_array();
+    is_strong(design, store, &ports[0])
+        && is_strong(design, store, &ports[1])
+        && is_strong(design, store, &ports[2])
+        && is_strong(design, store, &ports[3])
+}
+
+// Whether a gate makes strong bits of the bits that its ports are seen as: one that looks at bits alone does by its
+// strengths, and one that passes places does where its ports are driven strongly.
+fn is_by_bits<F: Fanout + Drop>(
+    design: &Design<F>,
+    store: &Store,
+    gate: &Gate,
+    drives: (u8, u8),
+    ports: &Sources,
+) -> bool
+    requires { AreShowing design.now store.now ports.now }
     ensures strong { result ≡ true → IsTrue (keeps_strong gate.now drives.0 drives.1) }
+    ensures ports { result ≡ true → looks gate.now ≡ false → driven_ports 6 6 (seen_ports (map (at_source design.now store.now) ports.now)) ≡ map (at_source design.now store.now) ports.now }
 {
     match gate {
         Gate::And
@@ -77,7 +109,10 @@ fn is_by_bits(gate: &Gate, drives: (u8, u8)) -> bool
         | Gate::Muxz => drives.0 == 6 && drives.1 == 6,
         Gate::Arithmetic { .. } | Gate::Compare { .. } | Gate::Shift { .. } | Gate::Reduce { .. } =>
             true,
-        _ => false,
+        Gate::Resolver {
+            kind: ResKind::Tri0 | ResKind::Tri1,
+        } => false,
+        _ => are_strong(design, store, ports),
     }
 }
 
@@ -126,7 +161,7 @@ fn bits_at_ports<F: Fanout + Drop>(
     ]
 }
 
-/// What a gate drives: bits, where it looks at bits alone and drives strongly.
+/// What a gate drives: bits, where those that its ports are seen as tell it, and it is strong.
 pub(crate) fn output<F: Fanout + Drop>(design: &Design<F>, store: &Store, item: u32) -> Driver
     requires linked { IsLinked design.now }
     requires wide { AreWide design.now store.now }
@@ -137,7 +172,7 @@ pub(crate) fn output<F: Fanout + Drop>(design: &Design<F>, store: &Store, item: 
     match design.kind(item) {
         ItemKind::Functor { gate, drive, ports } => {
             let width = design.width(item);
-            if is_by_bits(gate, *drive) {
+            if is_by_bits(design, store, gate, *drive, ports) {
                 let bits = bits_at_ports(design, store, ports);
                 Driver::Bits(eval_strong(gate, width, &bits))
             } else {

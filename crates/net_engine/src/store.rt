@@ -227,6 +227,14 @@ impl Store {
         self.plane.get(item)
     }
 
+    /// Whether an item shows the bits that it is seen as, driven as a variable drives them, by what the plane alone tells.
+    pub(crate) fn is_strong(&self, item: u32) -> bool
+        requires { 1 ≤ length (driven_of self.now item) }
+        ensures { result ≡ true → strongly (seen (levels_of self.now item)) ≡ levels_of self.now item }
+    {
+        is_plain(self.slots.as_slice(), item)
+    }
+
     /// What drives an item.
     pub(crate) fn driven(&self, item: u32) -> Vec8
         requires { 1 ≤ length (driven_of self.now item) }
