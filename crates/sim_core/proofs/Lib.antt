@@ -37,3 +37,4 @@ pub mod GoLemmas
 pub mod LoadLemmas
 pub mod StartedLemmas
 pub mod TookLemmas
+pub mod SnapshotLemmas

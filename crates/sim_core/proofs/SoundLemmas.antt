@@ -1,5 +1,5 @@
 -- What an engine keeps is kept by what its parts do.
-use Rattle.std.proofs.Common.{◌≡◌, ℕ, zero, suc, ◌+◌, ◌≤◌, Bool, Option, Some, None, option_map, List, [], ◌∷◌, map, set, refl, sym, ap, subst, ◌∙◌, arith}
+use Rattle.std.proofs.Common.{◌≡◌, ℕ, zero, suc, ◌+◌, ◌≤◌, Bool, true, false, Option, Some, None, option_map, List, [], ◌∷◌, map, set, refl, sym, ap, subst, ◌∙◌, arith}
 use Rattle.event_pool.specs.declared.agenda.Due.{Due}
 use Rattle.event_pool.specs.declared.agenda.Act.{Act}
 use Rattle.event_pool.specs.declared.agenda.Act.TheVariants.{Eval, Mature, Run, Update}
@@ -18,11 +18,24 @@ use Rattle.vvp_threads.proofs.StartLemmas.{frame-runs}
 use Rattle.net_engine.specs.State.{State}
 use Rattle.net_engine.specs.Kept.{Delivers, Fits, NetNow, in_turn_of, state_of}
 use Rattle.sim_core.specs.Machine.{framed}
-use Rattle.sim_core.specs.Kept.{AsksFew, Held, IsSound}
+use Rattle.sim_core.specs.Kept.{AsksFew, Held, IsSound, Lasts, Stands}
 use Rattle.sim_core.proofs.DescendLemmas.{AreAmong, Descend, descend-children, descend-framed, descend-scopes}
 use Rattle.sim_core.proofs.ActLemmas.{SameActs, fits-acts}
 use Rattle.sim_core.proofs.FrameLemmas.{framed-is}
 use Rattle.sim_core.proofs.WakeLemmas.{Wakes}
+
+-- ---- what stands in any case
+
+stands-sound : (h : Held) → IsSound h → Stands h.program h.net h.threads h.schedule
+stands-sound h s = record { linked = s.linked; nodes = s.nodes; events = s.fits.events; in_turn = s.in_turn }
+
+-- an engine that hasn't failed keeps all of it
+pub lasts : (failed : Bool) (h : Held) → failed ≡ false → (failed ≡ false → IsSound h) → Lasts failed h
+lasts failed h fine sound = record { sound = sound; stands = stands-sound h (sound fine) }
+
+-- one that has failed keeps what stands
+pub lasts-failed : (h : Held) → Stands h.program h.net h.threads h.schedule → Lasts true h
+lasts-failed h stands = record { sound = λ fine. absurd (let none : ⊥ = cc in none); stands = stands }
 
 -- ---- another frame
 

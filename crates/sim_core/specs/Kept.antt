@@ -1,5 +1,5 @@
--- What an engine keeps between steps, as long as memory was never wanting.
-use Rattle.std.specs.Prelude.{◌≡◌, ℕ, ◌+◌, ◌<◌, ◌≤◌, false, Option, Some, List, length, map, count_by, slice_get}
+-- What an engine keeps between steps: all of it as long as memory was never wanting, and what a snapshot needs in any case.
+use Rattle.std.specs.Prelude.{◌≡◌, ℕ, ◌+◌, ◌<◌, ◌≤◌, false, Option, Some, List, length, map, count_by, slice_get, Bool}
 use Rattle.std.specs.Option.{ForSome}
 use Rattle.event_pool.specs.Order.{in_order}
 use Rattle.event_pool.specs.Pending.{unkeyed}
@@ -70,3 +70,16 @@ pub record IsSound (h : Held) : Type 0 where
   pub few_taken : h.taken ≤ h.steps
   pub few_serials : length h.threads.table.threads ≤ h.steps + length h.program.threads
   pub few_requests : AsksFew h.net.values h.steps
+
+-- What stands even where memory was wanting: the net is that of the program, each item has a list of waiting threads, and the
+-- dues are in order.
+pub record Stands (program : Program) (net : NetNow) (threads : KeyedTable) (schedule : Schedule) : Type 0 where
+  pub linked : IsProgram program
+  pub nodes : net.nodes ≡ nodes_of program
+  pub events : length threads.table.waiting ≡ length net.nodes
+  pub in_turn : in_order (map unkeyed schedule.dues) ≡ map unkeyed schedule.dues
+
+-- what an engine keeps, by whether memory was wanting
+pub record Lasts (failed : Bool) (h : Held) : Type 0 where
+  pub sound : failed ≡ false → IsSound h
+  pub stands : Stands h.program h.net h.threads h.schedule

@@ -52,11 +52,11 @@ pub struct Engine<A: Agenda + Drop, F: Fanout + Drop> {
 }
 
 impl<A: Agenda + Drop, F: Fanout + Drop> Model for Engine<A, F> {
-    ghost use Rattle.std.specs.Prelude.{◌≡◌, false, option_map};
+    ghost use Rattle.std.specs.Prelude.{option_map};
     ghost use Rattle.sim_core.specs.declared.engine.Running.{Running};
     ghost use Rattle.net_engine.specs.Kept.{state_of};
     ghost use Rattle.sim_core.specs.Engine.{Shown};
-    ghost use Rattle.sim_core.specs.Kept.{IsSound};
+    ghost use Rattle.sim_core.specs.Kept.{Lasts};
 
     ghost Value = { Shown };
 
@@ -75,19 +75,18 @@ impl<A: Agenda + Drop, F: Fanout + Drop> Model for Engine<A, F> {
       failed = e.failed;
     } };
 
-    ghost invariant = { λ e. e.failed ≡ false
-        → IsSound (record {
-          program = e.program;
-          scope_parents = e.scope_parents.items;
-          outputs = e.outputs;
-          net = e.net;
-          threads = e.threads;
-          design = e.tasks.design;
-          schedule = A.schedule e.agenda;
-          running = e.running;
-          steps = e.steps;
-          taken = e.taken;
-        }) };
+    ghost invariant = { λ e. Lasts e.failed (record {
+      program = e.program;
+      scope_parents = e.scope_parents.items;
+      outputs = e.outputs;
+      net = e.net;
+      threads = e.threads;
+      design = e.tasks.design;
+      schedule = A.schedule e.agenda;
+      running = e.running;
+      steps = e.steps;
+      taken = e.taken;
+    }) };
 }
 
 impl<A: Agenda + Drop, F: Fanout + Drop> Engine<A, F> {

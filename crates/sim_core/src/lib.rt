@@ -11,9 +11,11 @@ mod dues;
 mod effects;
 mod ending;
 mod engine;
+mod lists;
 mod opcode;
 mod orders;
 mod pieces;
+mod snapshot;
 mod start;
 #[cfg(test)]
 mod tests;
@@ -21,4 +23,6 @@ mod tests;
 pub use budget::run;
 pub use ending::Ending;
 pub use engine::Engine;
+pub use lists::{DelayList, Forced, ForcedList, LevelList, ThreadList, WaitList, WordList};
 pub use orders::state_orders;
+pub use snapshot::Snapshot;

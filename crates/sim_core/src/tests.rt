@@ -7,6 +7,7 @@ ghost use Rattle.port_chain.specs.Pairs.{pairs_of};
 ghost use Rattle.net_engine.specs.Readers.{driven_ports};
 
 use crate::{Engine, run, state_orders};
+use event_pool::{Act, Due, Region};
 use net_engine::reader_list;
 use port_chain::ChainFanout;
 use std::alloc::{AllocError, Global};
@@ -89,6 +90,52 @@ fn runs(alloc: Global, row: &Row) -> Result<bool, Fail> {
 // The law of orders.
 fn orders() {
     state_orders();
+}
+
+// Whether a run that starts is shown without dues, as a file without threads and gates has none.
+fn shows_nothing(engine: &Engine<Wheel, ChainFanout>, alloc: Global) -> Result<bool, AllocError> {
+    let shown = engine.snapshot(alloc)?;
+    Ok(shown.dues.is_empty() && shown.threads.as_slice().is_empty() && shown.serials == 0)
+}
+
+// Whether these are the serials 0 and 1.
+fn are_first_two(serials: &[u64]) -> bool {
+    serials.len() == 2 && serials[0] == 0 && serials[1] == 1
+}
+
+// Whether this is the one due of the third thread at time 1.
+fn is_third_run(dues: &[Due]) -> bool {
+    dues.len() == 1
+        && dues[0]
+            == Due {
+                time: 1,
+                region: Region::Active,
+                act: Act::Run { serial: 2, key: 0 },
+            }
+}
+
+// Whether seven steps of the run with waiting threads are shown: two threads wait for the third item, and the third is delayed.
+fn shows_waiters(engine: &Engine<Wheel, ChainFanout>, alloc: Global) -> Result<bool, AllocError> {
+    let shown = engine.snapshot(alloc)?;
+    let waiting = shown.waiting.as_slice();
+    Ok(
+        shown.steps == 7
+            && shown.threads.as_slice().len() == 3
+            && is_third_run(shown.dues.as_slice())
+            && waiting.len() == 4
+            && are_first_two(waiting[3].as_slice()),
+    )
+}
+
+// Whether the snapshots of two runs show what they hold.
+fn shows(alloc: Global) -> Result<bool, Fail> {
+    let empty = loaded(alloc, b"", 0)?;
+    if !shows_nothing(&empty, alloc)? {
+        return Ok(false);
+    }
+    let mut engine = loaded(alloc, WAITERS, 0)?;
+    let _ending = run(&mut engine, 7)?;
+    Ok(shows_waiters(&engine, alloc)?)
 }
 
 struct Row {
@@ -213,6 +260,24 @@ T_3 %delay 1, 0;
 ";
 
 #[rattlefmt::skip]
+const WAITERS: &[u8] = b"S_1 .scope module, \"m\" \"m\" 1 1;
+v_0 .var \"v\", 0 0;
+L_1 .functor AND 1, v_0, v_0;
+E_1 .event edge, v_0;
+T_0 %wait E_1;
+ %end;
+ .thread T_0;
+T_1 %wait E_1;
+ %end;
+ .thread T_1;
+T_2 %delay 1, 0;
+ %pushi/vec4 1, 0, 1;
+ %store/vec4 v_0, 0, 1;
+ %end;
+ .thread T_2;
+";
+
+#[rattlefmt::skip]
 const TRAPPED: &[u8] = b"S_1 .scope module, \"m\" \"m\" 1 1;
 T_0 ;
  %pushi/vec4 1, 0, 3;
@@ -239,5 +304,11 @@ fn designs(rt: HostRuntime) -> Result<(), Fail> {
     for row in &ROWS {
         assert!(rt; runs(rt.alloc(), row)?);
     }
+    Ok(())
+}
+
+#[test]
+fn snapshots(rt: HostRuntime) -> Result<(), Fail> {
+    assert!(rt; shows(rt.alloc())?);
     Ok(())
 }

@@ -6,6 +6,7 @@ use Rattle.sim_core.specs.Effects.{assigned_later}
 use Rattle.sim_core.specs.Engine.{Shown}
 use Rattle.sim_core.proofs.EffectLemmas.{assign-runs, assign-shown, assign-sound, assigned-past, assigned-tasks, not-below, shown-same, update_at}
 use Rattle.sim_core.proofs.WholeLemmas.{shown_of, whole}
+use Rattle.sim_core.proofs.SoundLemmas.{lasts}
 use Rattle.sim_core.proofs.engine.Engine.assign.Goals as goal
 
 pub returns-in_err-make_room-in-Some-clause-err : goal.returns-in_err-make_room-in-Some-clause-err
@@ -16,11 +17,13 @@ returns-in_err-make_room-in-Some-clause-err g c =
     (ap (λ (s : Shown). s.machine.tasks) c.self.view_is) (ap (λ (s : Shown). s.program) c.self.view_is) (ap (λ (s : Shown). s.order) c.self.view_is))
 
 pub invariant_of-self-in-Some : goal.invariant_of-self-in-Some
-invariant_of-self-in-Some g c = λ fine.
+invariant_of-self-in-Some g c =
     let w = whole c.self.inside.program c.self.inside.scope_parents.items c.self.inside.outputs c.self.inside.order c.self.inside.net c.self.inside.threads (g.A.Agenda.schedule c.self.inside.agenda) c.self.inside.tasks c.self.inside.running c.self.inside.steps c.self.inside.peak c.self.inside.taken c.self.inside.ending c.self.inside.failed in
+    lasts _ _ (ap (λ (s : Shown). s.failed) c.self.view_is ∙ c.requires.at.2.runs.fine)
+    (λ fine.
     let put : g.A.Agenda.schedule c.put.new.self ≡ put_due (g.A.Agenda.schedule c.make_room.new.agenda) (update_at c.in-Some.time c.args.item c.args.word c.args.offset c.args.value) = cc (to_z-of_z w64 c.args.offset c.ranges.offset, c.put.ensures) in
-    assign-sound w c.args.self.now c.requires.at.0 c.requires.at.1 c.in-Some.time c.args.item c.args.word c.args.offset c.args.value (g.A.Agenda.schedule c.make_room.new.agenda) (g.A.Agenda.schedule c.put.new.self) c.self.view_is c.self.invariant c.requires.at.2.runs
-    c.requires.at.3 c.in_ok-make_room-in-Some.ensures.dues c.in_ok-make_room-in-Some.ensures.ok put
+    assign-sound w c.args.self.now c.requires.at.0 c.requires.at.1 c.in-Some.time c.args.item c.args.word c.args.offset c.args.value (g.A.Agenda.schedule c.make_room.new.agenda) (g.A.Agenda.schedule c.put.new.self) c.self.view_is c.self.invariant.sound c.requires.at.2.runs
+    c.requires.at.3 c.in_ok-make_room-in-Some.ensures.dues c.in_ok-make_room-in-Some.ensures.ok put)
 
 pub returns-in-None-clause-ok : goal.returns-in-None-clause-ok
 returns-in-None-clause-ok g c = λ serial thread can.

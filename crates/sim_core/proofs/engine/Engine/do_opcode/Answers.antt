@@ -9,25 +9,29 @@ use Rattle.sim_core.specs.Parts.{FrameDone, LeavesBy, Runs}
 use Rattle.sim_core.proofs.MethodLemmas.{opcode-kept, opcodes-fit}
 use Rattle.sim_core.proofs.OpcodeLemmas.{opcode-leaves}
 use Rattle.sim_core.proofs.WholeLemmas.{runs-at, shown_of, whole}
+use Rattle.sim_core.proofs.SoundLemmas.{lasts}
+use Rattle.sim_core.specs.Engine.{Shown}
 use Rattle.sim_core.proofs.engine.Engine.do_opcode.Goals as goal
 
 pub do_opcode_at-requires-clause-live : goal.do_opcode_at-requires-clause-live
 do_opcode_at-requires-clause-live g c =
     let w = whole c.self.inside.program c.self.inside.scope_parents.items c.self.inside.outputs c.self.inside.order c.self.inside.net c.self.inside.threads (g.A.Agenda.schedule c.self.inside.agenda) c.self.inside.tasks c.self.inside.running c.self.inside.steps c.self.inside.peak c.self.inside.taken c.self.inside.ending c.self.inside.failed in
-    let a = runs-at w c.args.self.now c.requires.at.0 c.requires.at.1 c.unwrap-running.result c.self.view_is c.self.invariant c.requires.at.2 c.unwrap-running.ensures in
+    let a = runs-at w c.args.self.now c.requires.at.0 c.requires.at.1 c.unwrap-running.result c.self.view_is c.self.invariant.sound c.requires.at.2 c.unwrap-running.ensures in
     (c.requires.at.0, c.requires.at.1, a.key, a.live)
 
 pub do_opcode_at-requires-clause-fits : goal.do_opcode_at-requires-clause-fits
 do_opcode_at-requires-clause-fits g c =
     let w = whole c.self.inside.program c.self.inside.scope_parents.items c.self.inside.outputs c.self.inside.order c.self.inside.net c.self.inside.threads (g.A.Agenda.schedule c.self.inside.agenda) c.self.inside.tasks c.self.inside.running c.self.inside.steps c.self.inside.peak c.self.inside.taken c.self.inside.ending c.self.inside.failed in
-    let a = runs-at w c.args.self.now c.requires.at.0 c.requires.at.1 c.unwrap-running.result c.self.view_is c.self.invariant c.requires.at.2 c.unwrap-running.ensures in
+    let a = runs-at w c.args.self.now c.requires.at.0 c.requires.at.1 c.unwrap-running.result c.self.view_is c.self.invariant.sound c.requires.at.2 c.unwrap-running.ensures in
     opcodes-fit w.held c.as_slice-code.result.now a.sound c.widths.ensures c.as_slice-code.ensures
 
 pub invariant_of-self : goal.invariant_of-self
-invariant_of-self g c = λ fine.
+invariant_of-self g c =
     let w = whole c.self.inside.program c.self.inside.scope_parents.items c.self.inside.outputs c.self.inside.order c.self.inside.net c.self.inside.threads (g.A.Agenda.schedule c.self.inside.agenda) c.self.inside.tasks c.self.inside.running c.self.inside.steps c.self.inside.peak c.self.inside.taken c.self.inside.ending c.self.inside.failed in
-    let a = runs-at w c.args.self.now c.requires.at.0 c.requires.at.1 c.unwrap-running.result c.self.view_is c.self.invariant c.requires.at.2 c.unwrap-running.ensures in
-    opcode-kept w c.as_slice-code.result.now (words_of w.held.net.nodes w.held.net.values) c.requires.at.0 c.requires.at.1 c.unwrap-running.result c.do_opcode_at.new.threads c.do_opcode_at.result a c.do_opcode_at.ensures.done c.do_opcode_at.ensures.still
+    lasts _ _ (ap (λ (s : Shown). s.failed) c.self.view_is ∙ c.requires.at.2.fine)
+    (λ fine.
+    let a = runs-at w c.args.self.now c.requires.at.0 c.requires.at.1 c.unwrap-running.result c.self.view_is c.self.invariant.sound c.requires.at.2 c.unwrap-running.ensures in
+    opcode-kept w c.as_slice-code.result.now (words_of w.held.net.nodes w.held.net.values) c.requires.at.0 c.requires.at.1 c.unwrap-running.result c.do_opcode_at.new.threads c.do_opcode_at.result a c.do_opcode_at.ensures.done c.do_opcode_at.ensures.still)
 
 pub returns-clause-done : goal.returns-clause-done
 returns-clause-done g c =
@@ -37,8 +41,8 @@ returns-clause-done g c =
     (λ (effect : Option Effect). (s : ℕ) (t : Thread) → IsKeyOf w.held.threads s c.unwrap-running.result.key → thread_of w.held.threads.table s ≡ Some t → FrameDone effect c.as_slice-code.result.now (words_of w.held.net.nodes w.held.net.values) w.held.threads c.do_opcode_at.new.threads s t)
     (λ (effect : Option Effect). (s : ℕ) (t : Thread) → Runs c.args.self.now s t → LeavesBy effect c.args.self.now after s t)
     (λ effect done serial thread runs.
-    let a = runs-at w c.args.self.now serial thread c.unwrap-running.result c.self.view_is c.self.invariant runs c.unwrap-running.ensures in
-    opcode-leaves w c.args.self.now effect c.as_slice-code.result.now serial thread c.unwrap-running.result c.do_opcode_at.new.threads c.self.view_is c.self.invariant runs c.unwrap-running.ensures refl c.widths.ensures c.as_slice-code.ensures (done serial thread a.key a.live))
+    let a = runs-at w c.args.self.now serial thread c.unwrap-running.result c.self.view_is c.self.invariant.sound runs c.unwrap-running.ensures in
+    opcode-leaves w c.args.self.now effect c.as_slice-code.result.now serial thread c.unwrap-running.result c.do_opcode_at.new.threads c.self.view_is c.self.invariant.sound runs c.unwrap-running.ensures refl c.widths.ensures c.as_slice-code.ensures (done serial thread a.key a.live))
     c.do_opcode_at.ensures.done
 
 pub returns-clause-err : goal.returns-clause-err

@@ -12,13 +12,13 @@ pub run_opcode-requires-clause-at : goal.run_opcode-requires-clause-at
 run_opcode-requires-clause-at g c =
     let fine : c.self.inside.failed ≡ false = ap (λ (s : Shown). s.failed) c.self.view_is ∙ c.requires.fine in
     running-there c.args.self.now c.self.inside.threads (g.A.Agenda.schedule c.self.inside.agenda) c.self.inside.running c.requires.fine
-    (ap (λ (s : Shown). s.machine.running) (sym c.self.view_is)) (ap (λ (s : Shown). s.machine.state.threads) (sym c.self.view_is)) (sym c.is_some.ensures ∙ c.if-is_some.true) (c.self.invariant fine).runs
+    (ap (λ (s : Shown). s.machine.running) (sym c.self.view_is)) (ap (λ (s : Shown). s.machine.state.threads) (sym c.self.view_is)) (sym c.is_some.ensures ∙ c.if-is_some.true) (c.self.invariant.sound fine).runs
 
 pub returns-then-is_some-clause-ok : goal.returns-then-is_some-clause-ok
 returns-then-is_some-clause-ok g c =
     let fine : c.self.inside.failed ≡ false = ap (λ (s : Shown). s.failed) c.self.view_is ∙ c.requires.fine in
     let at = running-there c.args.self.now c.self.inside.threads (g.A.Agenda.schedule c.self.inside.agenda) c.self.inside.running c.requires.fine
-    (ap (λ (s : Shown). s.machine.running) (sym c.self.view_is)) (ap (λ (s : Shown). s.machine.state.threads) (sym c.self.view_is)) (sym c.is_some.ensures ∙ c.if-is_some.true) (c.self.invariant fine).runs in
+    (ap (λ (s : Shown). s.machine.running) (sym c.self.view_is)) (ap (λ (s : Shown). s.machine.state.threads) (sym c.self.view_is)) (sym c.is_some.ensures ∙ c.if-is_some.true) (c.self.invariant.sound fine).runs in
     on_ok_weaker c.run_opcode.result
     (λ (k : (serial : ℕ) (thread : Thread) → Runs c.args.self.now serial thread → ShownSteps (proceed c.args.self.now.program serial) c.args.self.now c.run_opcode.new.self).
     running-steps c.args.self.now.program c.args.self.now.order at.0 c.args.self.now c.run_opcode.new.self c.requires.going at.2.running (k at.0 at.1 at.2))
@@ -28,7 +28,7 @@ pub returns-then-is_some-clause-err : goal.returns-then-is_some-clause-err
 returns-then-is_some-clause-err g c =
     let fine : c.self.inside.failed ≡ false = ap (λ (s : Shown). s.failed) c.self.view_is ∙ c.requires.fine in
     let at = running-there c.args.self.now c.self.inside.threads (g.A.Agenda.schedule c.self.inside.agenda) c.self.inside.running c.requires.fine
-    (ap (λ (s : Shown). s.machine.running) (sym c.self.view_is)) (ap (λ (s : Shown). s.machine.state.threads) (sym c.self.view_is)) (sym c.is_some.ensures ∙ c.if-is_some.true) (c.self.invariant fine).runs in
+    (ap (λ (s : Shown). s.machine.running) (sym c.self.view_is)) (ap (λ (s : Shown). s.machine.state.threads) (sym c.self.view_is)) (sym c.is_some.ensures ∙ c.if-is_some.true) (c.self.invariant.sound fine).runs in
     on_err_weaker c.run_opcode.result
     (λ (k : (serial : ℕ) (thread : Thread) → Runs c.args.self.now serial thread → ShownFails (proceed c.args.self.now.program serial) c.args.self.now c.run_opcode.new.self).
     running-fails c.args.self.now.program c.args.self.now.order at.0 c.args.self.now c.run_opcode.new.self c.requires.going at.2.running (k at.0 at.1 at.2))

@@ -2,6 +2,7 @@ use Rattle.std.proofs.Common.{sym, subst}
 use Rattle.sim_core.specs.Engine.{EngineFails, Shown}
 use Rattle.sim_core.specs.Step.{step}
 use Rattle.sim_core.proofs.FailLemmas.{engine-fails, engine-follows}
+use Rattle.sim_core.proofs.SoundLemmas.{lasts-failed}
 use Rattle.sim_core.proofs.SentLemmas.{step-after}
 use Rattle.sim_core.proofs.TurnLemmas.{step-refused}
 use Rattle.sim_core.proofs.engine.Engine.step.Goals as goal
@@ -18,3 +19,6 @@ returns-in-Err-clause-err g c =
     let k = subst (λ (s : Shown). EngineFails (step c.args.self.now.program c.args.self.now.order) c.args.self.now s) (sym c.self-2.view_is)
     (engine-fails (step c.args.self.now.program c.args.self.now.order) c.args.self.now c.go_on.new.self (step-after c.args.self.now.program c.args.self.now.order) c.in-Err.ensures.err) in
     record { out = k.out; dump = k.dump; program = k.program; order = k.order }
+
+pub invariant_of-self : goal.invariant_of-self
+invariant_of-self g c = lasts-failed _ c.self-2.invariant.stands
