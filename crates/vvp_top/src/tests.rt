@@ -45,44 +45,71 @@ fn words_of(alloc: Global, words: &[&str]) -> Result<Vec<String>, AllocError> {
     Ok(owned)
 }
 
+// What a call works on: a store and two sinks.
+#[derive(Drop)]
+struct Desk<K: Sink + Drop> {
+    store: MemStore,
+    out: K,
+    errs: MemSink,
+}
+
 // A store in which `a` has these bytes.
-fn store_of(alloc: Global, marked: &[u8]) -> Result<MemStore, AllocError> {
+fn store_of(alloc: Global, source: &[u8]) -> Result<MemStore, AllocError> {
     let mut store = MemStore::new(alloc, 10_000)?;
-    store.put_file(b"a", &text_of(alloc, marked)?)?;
+    store.put_file(b"a", source)?;
     Ok(store)
 }
 
-fn sink(alloc: Global, most: usize) -> Result<MemSink, AllocError> {
-    MemSink::new(alloc, most.max(1), 200_000)
+fn sink(alloc: Global) -> Result<MemSink, AllocError> {
+    MemSink::new(alloc, 1000, 200_000)
 }
 
-// Whether a sink holds a marked text.
-fn holds(alloc: Global, sink: &MemSink, marked: &[u8]) -> Result<bool, AllocError> {
-    Ok(sink.held() == text_of(alloc, marked)?.as_slice())
+// A sink that takes so many bytes at once, at most, and fails at this write.
+fn failing_sink(alloc: Global, most: usize, nth: u64) -> Result<MemSink, AllocError> {
+    let mut sink = MemSink::new(alloc, most.max(1), 200_000)?;
+    sink.fail_at(nth)?;
+    Ok(sink)
 }
 
-// The status of a call on the words, with this store and these sinks.
-fn status_on<K: Sink>(
+// A desk with these bytes in `a`.
+fn desk_of<K: Sink + Drop>(alloc: Global, source: &[u8], out: K) -> Result<Desk<K>, AllocError> {
+    let store = store_of(alloc, source)?;
+    let errs = sink(alloc)?;
+    Ok(Desk { store, out, errs })
+}
+
+// The status of a call on the words.
+fn run<K: Sink + Drop>(
     alloc: Global,
+    desk: &mut Desk<K>,
     words: &[&str],
-    store: &mut MemStore,
-    out: &mut K,
-    errs: &mut MemSink,
 ) -> Result<u8, AllocError> {
-    Ok(call(alloc, &words_of(alloc, words)?, store, out, errs))
+    let words = words_of(alloc, words)?;
+    Ok(call(
+        alloc,
+        &words,
+        &mut desk.store,
+        &mut desk.out,
+        &mut desk.errs,
+    ))
+}
+
+// Whether a desk's sinks hold what a row says.
+fn holds(alloc: Global, desk: &Desk<MemSink>, row: &Row) -> Result<bool, AllocError> {
+    let out = text_of(alloc, row.out)?;
+    let errs = match row.errs {
+        None => return Ok(desk.out.held() == out.as_slice()),
+        Some(lines) => text_of(alloc, lines)?,
+    };
+    Ok(desk.out.held() == out.as_slice() && desk.errs.held() == errs.as_slice())
 }
 
 // Whether a row gives what it says.
 fn is_so(alloc: Global, row: &Row) -> Result<bool, AllocError> {
-    let mut store = store_of(alloc, row.source)?;
-    let mut out = sink(alloc, 1000)?;
-    let mut errs = sink(alloc, 1000)?;
-    let status = status_on(alloc, row.words, &mut store, &mut out, &mut errs)?;
-    let said = match row.errs {
-        None => true,
-        Some(lines) => holds(alloc, &errs, lines)?,
-    };
-    Ok(said && status == row.status && holds(alloc, &out, row.out)?)
+    let source = text_of(alloc, row.source)?;
+    let mut desk = desk_of(alloc, &source, sink(alloc)?)?;
+    let status = run(alloc, &mut desk, row.words)?;
+    Ok(status == row.status && holds(alloc, &desk, row)?)
 }
 
 fn check_part(rt: &impl Abort, alloc: Global, rows: &[Row]) -> Result<(), Fail> {
@@ -135,15 +162,13 @@ fn dumps(
     status: u8,
     dump: Option<&[u8]>,
 ) -> Result<bool, AllocError> {
-    let mut store = MemStore::new(alloc, 10_000)?;
-    store.put_file(b"a", &dumping(alloc, name)?)?;
+    let source = dumping(alloc, name)?;
+    let mut desk = desk_of(alloc, &source, sink(alloc)?)?;
     if let Some(kind) = failing {
-        store.fail_at(kind, 1)?;
+        desk.store.fail_at(kind, 1)?;
     }
-    let mut out = sink(alloc, 1000)?;
-    let mut errs = sink(alloc, 1000)?;
-    let answered = status_on(alloc, &["a"], &mut store, &mut out, &mut errs)?;
-    Ok(answered == status && is_file(alloc, store.file(name), dump)?)
+    let answered = run(alloc, &mut desk, &["a"])?;
+    Ok(answered == status && is_file(alloc, desk.store.file(name), dump)?)
 }
 
 #[test]
@@ -181,7 +206,7 @@ impl Sink for Noting {
 }
 
 // A design that prints 100 bytes at every second step.
-fn printing(alloc: Global) -> Result<MemStore, AllocError> {
+fn printing(alloc: Global) -> Result<Vec<u8>, AllocError> {
     let mut source = text_of(
         alloc,
         b"S_1 .scope module, \"m\" \"m\" 1 1;~T_0 ;~ %vpi_call 1 1 \"$display\", \"",
@@ -190,22 +215,21 @@ fn printing(alloc: Global) -> Result<MemStore, AllocError> {
         source.push(b'a')?;
     }
     source.extend_from_slice(&text_of(alloc, b"\" {0 0 0};~ %jmp T_0;~ .thread T_0;~")?)?;
-    let mut store = MemStore::new(alloc, 10)?;
-    store.put_file(b"a", &source)?;
-    Ok(store)
+    Ok(source)
 }
+
+const SHORT: [&str; 3] = ["--events", "2001", "a"];
 
 // The status of the printing design after 2,001 steps, and the lengths of the first pieces that it is put out in.
 fn noted(alloc: Global) -> Result<(u8, [usize; 8]), AllocError> {
-    let mut out = Noting {
+    let source = printing(alloc)?;
+    let out = Noting {
         lengths: [0; 8],
         count: 0,
     };
-    let mut store = printing(alloc)?;
-    let mut errs = sink(alloc, 1000)?;
-    let words = ["--events", "2001", "a"];
-    let status = status_on(alloc, &words, &mut store, &mut out, &mut errs)?;
-    Ok((status, out.lengths))
+    let mut desk = desk_of(alloc, &source, out)?;
+    let status = run(alloc, &mut desk, &SHORT)?;
+    Ok((status, desk.out.lengths))
 }
 
 #[test]
@@ -216,67 +240,48 @@ fn pieces(rt: HostRuntime) -> Result<(), Fail> {
     Ok(())
 }
 
-#[test]
-fn failing_piece(rt: HostRuntime) -> Result<(), Fail> {
-    let alloc = rt.alloc();
-    let mut out = MemSink::new(alloc, 100_000, 200_000)?;
-    out.fail_at(2)?;
-    let mut store = printing(alloc)?;
-    let mut errs = sink(alloc, 1000)?;
-    let status = status_on(
-        alloc,
-        &["--events", "2001", "a"],
-        &mut store,
-        &mut out,
-        &mut errs,
-    )?;
-    assert_eq!(rt; status, 6);
-    assert_eq!(rt; out.held().len(), 65_536);
-    Ok(())
-}
-
 const HELLO: &[u8] =
     b"S_1 .scope module, \"m\" \"m\" 1 1;~T_0 ;~ %vpi_call 1 1 \"$display\", \"Hello\" {0 0 0};~ %end;~ .thread T_0;~";
 
+// Whether the status is 6 where this output fails, which then holds so many bytes, of which these are the first.
+fn cut_off(
+    alloc: Global,
+    out: MemSink,
+    source: &[u8],
+    words: &[&str],
+    count: usize,
+    front: &[u8],
+) -> Result<bool, AllocError> {
+    let mut desk = desk_of(alloc, source, out)?;
+    let status = run(alloc, &mut desk, words)?;
+    let held = desk.out.held();
+    Ok(status == 6 && held.len() == count && held.starts_with(front))
+}
+
+#[test]
+fn failing_output(rt: HostRuntime) -> Result<(), Fail> {
+    let alloc = rt.alloc();
+    let hello = text_of(alloc, HELLO)?;
+    let first = failing_sink(alloc, 4, 1)?;
+    assert!(rt; cut_off(alloc, first, &hello, &["a"], 0, b"")?);
+    let second = failing_sink(alloc, 4, 2)?;
+    assert!(rt; cut_off(alloc, second, &hello, &["a"], 4, b"Hell")?);
+    let large = failing_sink(alloc, 100_000, 2)?;
+    assert!(rt; cut_off(alloc, large, &printing(alloc)?, &SHORT, 65_536, b"aaaa")?);
+    Ok(())
+}
+
 // Whether no words are refused where the first write of errs fails, which then holds nothing.
 fn errs_fail(alloc: Global) -> Result<bool, AllocError> {
-    let mut store = MemStore::new(alloc, 0)?;
-    let mut out = sink(alloc, 4)?;
-    let mut errs = sink(alloc, 1000)?;
-    errs.fail_at(1)?;
-    let answered = status_on(alloc, &[], &mut store, &mut out, &mut errs)?;
-    Ok(answered == 1 && errs.held().is_empty())
+    let mut desk = desk_of(alloc, b"", sink(alloc)?)?;
+    desk.errs.fail_at(1)?;
+    let status = run(alloc, &mut desk, &[])?;
+    Ok(status == 1 && desk.errs.held().is_empty())
 }
 
 #[test]
 fn failing_errs(rt: HostRuntime) -> Result<(), Fail> {
     assert!(rt; errs_fail(rt.alloc())?);
-    Ok(())
-}
-
-#[test]
-fn failing_first_write(rt: HostRuntime) -> Result<(), Fail> {
-    let alloc = rt.alloc();
-    let mut out = MemSink::new(alloc, 4, 200_000)?;
-    out.fail_at(1)?;
-    let mut store = store_of(alloc, HELLO)?;
-    let mut errs = sink(alloc, 1000)?;
-    let status = status_on(alloc, &["a"], &mut store, &mut out, &mut errs)?;
-    assert_eq!(rt; status, 6);
-    assert!(rt; out.held().is_empty());
-    Ok(())
-}
-
-#[test]
-fn failing_second_write(rt: HostRuntime) -> Result<(), Fail> {
-    let alloc = rt.alloc();
-    let mut out = MemSink::new(alloc, 4, 200_000)?;
-    out.fail_at(2)?;
-    let mut store = store_of(alloc, HELLO)?;
-    let mut errs = sink(alloc, 1000)?;
-    let status = status_on(alloc, &["a"], &mut store, &mut out, &mut errs)?;
-    assert_eq!(rt; status, 6);
-    assert!(rt; holds(alloc, &out, b"Hell")?);
     Ok(())
 }
 
@@ -298,12 +303,9 @@ fn honest_objects(rt: HostRuntime) -> Result<(), Fail> {
 
 // The status for a file of so many spaces.
 fn spaces(alloc: Global, count: usize) -> Result<u8, AllocError> {
-    let mut store = MemStore::new(alloc, 0)?;
     let blank = vec![in alloc; b' '; count]?;
-    store.put_file(b"a", &blank)?;
-    let mut out = sink(alloc, 1000)?;
-    let mut errs = sink(alloc, 1000)?;
-    status_on(alloc, &["a"], &mut store, &mut out, &mut errs)
+    let mut desk = desk_of(alloc, &blank, sink(alloc)?)?;
+    run(alloc, &mut desk, &["a"])
 }
 
 #[test]

@@ -376,10 +376,10 @@ const PART_7: &[Row] = &[
     Row {
         name: "open_statement",
         words: &["a"],
-        source: b"S_1 .scope module",
+        source: b"#! /usr/bin/vvp~:ivl_version \"10.3 (stable)\" \"(v10_3)\";~:ivl_delay_selection \"TYPICAL\";~:vpi_time_precision + 0;~:vpi_module \"system\";~S_0x5581 .scope module, \"main\" \"main\" 2 1",
         status: 2,
         out: b"",
-        errs: Some(b"vvp: line 1: open statement~"),
+        errs: Some(b"vvp: line 6: open statement~"),
     },
     Row {
         name: "missing_file",
