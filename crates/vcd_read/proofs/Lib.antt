@@ -1,0 +1,12 @@
+mod BodyFound
+mod CodeLemmas
+mod CompleteLemmas
+mod FoundLemmas
+mod HeaderFound
+mod HeaderLemmas
+mod KeptLemmas
+mod LawLemmas
+mod ReadLemmas
+mod SoundLemmas
+mod SpotLemmas
+mod WalkLemmas
