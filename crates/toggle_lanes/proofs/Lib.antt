@@ -1,0 +1,5 @@
+pub mod PairLemmas
+pub mod SumLemmas
+pub mod MoveLemmas
+pub mod FillLemmas
+pub mod RowLemmas

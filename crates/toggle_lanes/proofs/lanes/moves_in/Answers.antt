@@ -1,0 +1,13 @@
+use Rattle.std.proofs.Common.{◌*◌, ◌-◌, length, refl, arith}
+use Rattle.toggle_lanes.proofs.SumLemmas.{rises-more, falls-more, in-parts}
+use Rattle.toggle_lanes.proofs.lanes.moves_in.Goals as goal
+
+pub returns-clause-rises : goal.returns-clause-rises
+returns-clause-rises c =
+    in-parts _ _ _ _ _ _ c.and.ensures.rises c.in_fours.ensures.rises c.one_by_one.ensures.rises
+    (rises-more c.args.a.now c.args.b.now 0 _ _ _ (length c.args.a.now - 1) (omega arith) (omega arith))
+
+pub returns-clause-falls : goal.returns-clause-falls
+returns-clause-falls c =
+    in-parts _ _ _ _ _ _ c.and.ensures.falls c.in_fours.ensures.falls c.one_by_one.ensures.falls
+    (falls-more c.args.a.now c.args.b.now 0 _ _ _ (length c.args.a.now - 1) (omega arith) (omega arith))
