@@ -4,15 +4,13 @@ ghost use Rattle.std.specs.Prelude.{◌≡◌, ◌≤◌, All, Ok};
 ghost use Rattle.vcd_read.specs.declared.header.Wanted.TheVariants.{Entry};
 ghost use Rattle.vcd_read.specs.Reading.{Takes, time, section, scalar, vector, bits, entry, changed, start};
 
-use crate::bytes::{
-    are_bits, extended, is_bit, is_end, is_number, is_section, is_text, number_value, value_of,
-};
+use crate::bytes::{are_bits, extended, is_bit, is_end, is_number, is_section, is_text, value_of};
 use crate::changes::Changes;
 use crate::header::{Header, Wanted};
 use crate::types::{Change, Stop, VcdKind};
 use four_state::Vec4;
 use std::alloc::Global;
-use vvp_lex::{byte_at, bytes_after, vector_of};
+use vvp_lex::{byte_at, bytes_after, number_value, vector_of};
 
 /// What the body has said so far.
 #[derive(Drop)]

@@ -1,10 +1,9 @@
 //! What bytes and words are, and what they write.
 
-ghost use Rattle.std.specs.Prelude.{◌≡◌, ◌<◌, ◌≤◌, ◌^◌, [], ◌∷◌, length, SomeIff, IfSome, IsTrue, pos, negsuc, ◌≤ℤ◌};
+ghost use Rattle.std.specs.Prelude.{◌≡◌, ◌≤◌, [], ◌∷◌, length, IfSome, IsTrue, pos, negsuc, ◌≤ℤ◌};
 ghost use Rattle.std.specs.List.{AllPass, list_all, prefix_len};
 ghost use Rattle.std.specs.Char.{is_ascii_digit};
 ghost use Rattle.std.specs.Str.{bytes_eq};
-ghost use Rattle.std.specs.Str.Parse.{digits_value};
 ghost use Rattle.vvp_lex.specs.Text.{is_white};
 ghost use Rattle.vvp_lex.specs.Token.{is_bit};
 ghost use Rattle.vcd_read.specs.Words.{is_printable, is_end, is_number};
@@ -156,19 +155,6 @@ pub fn is_number(word: &[u8]) -> bool
     ensures digits { IsTrue result → AllPass is_ascii_digit word.now }
 {
     !word.is_empty() && are_digits(word)
-}
-
-/// The number that the digits write, where it is below 2 ^ 64.
-pub fn number_value(digits: &[u8]) -> Option<u64>
-    requires { AllPass is_ascii_digit digits.now }
-    ensures { SomeIff result (digits_value 10 digits.now < 2 ^ 64) (digits_value 10 digits.now) }
-{
-    let mut value: u64 = 0;
-    for digit in digits {
-        let tens = value.checked_mul(10)?;
-        value = tens.checked_add(u64::from(*digit - b'0'))?;
-    }
-    Some(value)
 }
 
 /// The value of one place that a byte writes.

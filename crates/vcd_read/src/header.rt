@@ -5,14 +5,13 @@ ghost use Rattle.vcd_read.specs.Reading.{Takes, need, plain, var_width, leave, c
 ghost use Rattle.vcd_read.specs.Parts.{path_of, net_of};
 
 use crate::bytes::{
-    digits_len, is_end, is_number, is_real, is_remark, is_text, number_power, number_value,
-    unit_power,
+    digits_len, is_end, is_number, is_real, is_remark, is_text, number_power, unit_power,
 };
 use crate::names::{Codes, Names};
 use crate::types::{Stop, Vars, VcdKind, VcdVar};
 use four_state::{Vec4, Widths};
 use std::alloc::{AllocError, Global};
-use vvp_lex::Bytes;
+use vvp_lex::{Bytes, number_value};
 
 /// What the next word has to be.
 #[derive(Clone, Copy)]

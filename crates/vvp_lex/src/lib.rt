@@ -24,6 +24,7 @@ pub use place::{
     byte_at, bytes_after, bytes_of, is_mark_at, mark_at, number_at, span, text_at, text_bytes_at,
     tokens_after, word_at,
 };
+pub use scan::number_value;
 pub use text::{Bytes, text_bytes};
 pub use types::{FormFault, FormKind, LexFault, LexKind, Name, Spanned, Stmt, Token};
 pub use vector::vector_of;

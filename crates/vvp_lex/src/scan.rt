@@ -93,8 +93,8 @@ fn byte_at(rest: &[u8], at: usize) -> u8
     }
 }
 
-/// The number that the digits write, where it is below 2 ^ 64.
-fn number_value(digits: &[u8]) -> Option<u64>
+/// The number that decimal digits write, where it is below 2 ^ 64. Of no digit it is 0.
+pub fn number_value(digits: &[u8]) -> Option<u64>
     requires { AllPass is_ascii_digit digits.now }
     ensures { SomeIff result (digits_value 10 digits.now < 2 ^ 64) (digits_value 10 digits.now) }
 {

@@ -1,7 +1,7 @@
 use crate::{
     Bytes, LexFault, LexKind, Name, Spanned, Stmt, Token, byte_at, bytes_after, bytes_of, is_label,
-    is_word, number_at, part_of, span, statements, text_at, text_bytes, tokens, tokens_after,
-    word_at,
+    is_word, number_at, number_value, part_of, span, statements, text_at, text_bytes, tokens,
+    tokens_after, word_at,
 };
 use std::test::Fail;
 
@@ -63,6 +63,15 @@ fn refused(line: u32, kind: LexKind) -> Option<LexFault> {
 
 fn spanned(token: Token, from: u32, to: u32) -> Spanned {
     Spanned { token, from, to }
+}
+
+/// The number that a text of digits alone writes.
+fn number(digits: &[u8]) -> Option<u64> {
+    if digits.iter().all(|b| b.is_ascii_digit()) {
+        number_value(digits)
+    } else {
+        None
+    }
 }
 
 #[test]
@@ -253,6 +262,8 @@ fn places(rt: HostRuntime) -> Result<(), Fail> {
     assert_eq!(rt; bytes_after(src, 12), b"\"t\";".as_slice());
     assert_eq!(rt; byte_at(src, 4), b'%');
     assert_eq!(rt; byte_at(src, 99), 0);
+    assert_eq!(rt; number(b"018446744073709551615"), Some(u64::MAX));
+    assert_eq!(rt; number(b"18446744073709551616"), None);
     Ok(())
 }
 
