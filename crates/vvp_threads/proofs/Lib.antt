@@ -1,6 +1,7 @@
 pub mod Reverse
 pub mod PlaceLemmas
 pub mod GatherLemmas
+pub mod LiveLemmas
 pub mod SearchLemmas
 pub mod SlotLemmas
 pub mod KeptLemmas

@@ -66,15 +66,18 @@ fn mark_places(places: &mut [Place], slab: &Slab<Thread>, scope: u32, scope_pare
 }
 
 impl Places {
-    /// Marks the places of the threads that a disable of a scope ends, and no others.
+    /// Marks the places of the threads that a disable of a scope ends, and no others. No place of an ended thread is kept
+    /// then.
     fn mark_disabled(&mut self, slab: &Slab<Thread>, scope: u32, scope_parents: &[u32])
         requires tree { AreScopes scope_parents.now }
         requires placed { IsPlaced self.old.slots slab.now }
         requires below { ParentsBelow (threads_of self.old.slots slab.now) }
         requires scopes { StandIn scope_parents.now (threads_of self.old.slots slab.now) }
-        ensures { self.new.slots ≡ map (option_map
+        ensures slots { self.new.slots ≡ map (option_map
             (marked_by (disabled_marks (threads_of self.old.slots slab.now) scope_parents.now scope))) self.old.slots }
+        ensures ended { self.new.ended ≡ 0 }
     {
+        self.prune();
         mark_places(self.places.as_mut_slice(), slab, scope, scope_parents);
     }
 
@@ -156,6 +159,7 @@ fn resume_other<A: Agenda>(
 
 // Makes the threads go on that join a marked one other than the running one.
 fn resume_others<A: Agenda>(places: &Places, slab: &mut Slab<Thread>, running: u64, agenda: &mut A)
+    requires live { places.now.ended ≡ 0 }
     requires placed { IsPlaced places.now.slots slab.old }
     requires room { length (filter_map (unmarked_joiner places.now.slots (threads_of places.now.slots slab.old))
         (other_serials running (filter_map (λ slot. slot) places.now.slots))) ≤ (A.schedule agenda.old).spare }
@@ -176,6 +180,7 @@ fn resume_others<A: Agenda>(places: &Places, slab: &mut Slab<Thread>, running: u
 // Makes the threads go on that join a marked one and aren't marked, in the order of the marked ones, the running one
 // first.
 fn resume_joiners<A: Agenda>(places: &Places, slab: &mut Slab<Thread>, running: u64, agenda: &mut A)
+    requires live { places.now.ended ≡ 0 }
     requires placed { IsPlaced places.now.slots slab.old }
     requires room { length (filter_map (unmarked_joiner places.now.slots (threads_of places.now.slots slab.old))
         (running_first running (marked_serials places.now.slots))) ≤ (A.schedule agenda.old).spare }
@@ -210,6 +215,7 @@ fn end_place(place: Place, slab: &mut Slab<Thread>, waiting: &mut Pool<u64>)
 // Takes the threads at marked places from the slab and from their queues, in time linear in the number of live threads,
 // and in that of a queue for each one that waits.
 fn end_marked(places: &Places, slab: &mut Slab<Thread>, waiting: &mut Pool<u64>)
+    requires live { places.now.ended ≡ 0 }
     requires placed { IsPlaced places.now.slots slab.old }
     requires sound { IsSound (threads_of places.now.slots slab.old) waiting.old.queues waiting.old.spare }
     ensures { LeavesOut places.now.slots (marked_serials places.now.slots) slab.old waiting.old.queues

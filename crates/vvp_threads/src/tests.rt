@@ -307,6 +307,12 @@ fn steps_by_table(rt: HostRuntime) -> Result<(), Fail> {
         make_row(Step::Join(0, 2), &[], &[0, 1], &[1]),
         make_row(Step::Join(0, 1), &[], &[0, 1], &[1]),
         make_row(Step::End(1), &[0], &[0], &[]),
+        make_row(Step::Spawn(Some(0), 2), &[], &[0, 4], &[]),
+        // Places of ended threads are kept no longer than those of live ones.
+        make_row(Step::End(4), &[], &[0], &[]),
+        make_row(Step::Spawn(None, 3), &[], &[0, 5], &[]),
+        make_row(Step::End(0), &[], &[5], &[]),
+        make_row(Step::Disable(5, 1), &[], &[], &[]),
     ];
     // Scopes 1 and 4 lie below scope 0, and 2 and 3 below 1.
     let scope_parents = [NO_SCOPE, 0, 1, 1, 0];

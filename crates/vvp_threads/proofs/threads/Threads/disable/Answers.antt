@@ -26,7 +26,7 @@ resume_joiners-requires-clause-placed g c =
     let u = under_view c.self.inside.places.slots c.self.inside.slab c.self.inside.waiting.queues c.args.self.now c.self.view_is c.self.invariant.0 c.requires.running.0 c.args.running c.requires.running.1 in
     let is : c.index.result.now.serial ≡ c.requires.running.0 = ap (λ t. t.serial) (some_same c.index.result.now u.thread (sym c.index.ensures ∙ u.kept)) ∙ u.serial_is in
     let marks : List Bool = disabled_marks (threads_of c.self.inside.places.slots c.self.inside.slab) c.args.scope_parents.now c.args.scope in
-    let m = subst (Marked c.self.inside.places.slots c.self.inside.slab c.self.invariant.0 marks) (sym c.mark_disabled.ensures) (marked c.self.inside.places.slots c.self.inside.slab c.self.invariant.0 marks) in
+    let m = subst (Marked c.self.inside.places.slots c.self.inside.slab c.self.invariant.0 marks) (sym c.mark_disabled.ensures.slots) (marked c.self.inside.places.slots c.self.inside.slab c.self.invariant.0 marks) in
     let chosen : running_first c.requires.running.0 (marked_serials c.mark_disabled.new.self.slots) ≡ disabled_serials (record { threads = threads_of c.self.inside.places.slots c.self.inside.slab; waiting = c.self.inside.waiting.queues }) c.requires.running.0 c.args.scope_parents.now c.args.scope = ap (running_first c.requires.running.0) m.serials in
     let P : List (Option Thread) → Type 0 = λ ts. IsSound ts c.self.inside.waiting.queues c.self.inside.waiting.spare in
     let s = subst P (sym m.threads) c.self.invariant.1 in
@@ -37,7 +37,7 @@ resume_joiners-requires-clause-room g c =
     let u = under_view c.self.inside.places.slots c.self.inside.slab c.self.inside.waiting.queues c.args.self.now c.self.view_is c.self.invariant.0 c.requires.running.0 c.args.running c.requires.running.1 in
     let is : c.index.result.now.serial ≡ c.requires.running.0 = ap (λ t. t.serial) (some_same c.index.result.now u.thread (sym c.index.ensures ∙ u.kept)) ∙ u.serial_is in
     let marks : List Bool = disabled_marks (threads_of c.self.inside.places.slots c.self.inside.slab) c.args.scope_parents.now c.args.scope in
-    let m = subst (Marked c.self.inside.places.slots c.self.inside.slab c.self.invariant.0 marks) (sym c.mark_disabled.ensures) (marked c.self.inside.places.slots c.self.inside.slab c.self.invariant.0 marks) in
+    let m = subst (Marked c.self.inside.places.slots c.self.inside.slab c.self.invariant.0 marks) (sym c.mark_disabled.ensures.slots) (marked c.self.inside.places.slots c.self.inside.slab c.self.invariant.0 marks) in
     let chosen : running_first c.requires.running.0 (marked_serials c.mark_disabled.new.self.slots) ≡ disabled_serials (record { threads = threads_of c.self.inside.places.slots c.self.inside.slab; waiting = c.self.inside.waiting.queues }) c.requires.running.0 c.args.scope_parents.now c.args.scope = ap (running_first c.requires.running.0) m.serials in
     let P : List (Option Thread) → Type 0 = λ ts. IsSound ts c.self.inside.waiting.queues c.self.inside.waiting.spare in
     let s = subst P (sym m.threads) c.self.invariant.1 in
@@ -49,7 +49,7 @@ end_marked-requires-clause-sound g c =
     let u = under_view c.self.inside.places.slots c.self.inside.slab c.self.inside.waiting.queues c.args.self.now c.self.view_is c.self.invariant.0 c.requires.running.0 c.args.running c.requires.running.1 in
     let is : c.index.result.now.serial ≡ c.requires.running.0 = ap (λ t. t.serial) (some_same c.index.result.now u.thread (sym c.index.ensures ∙ u.kept)) ∙ u.serial_is in
     let marks : List Bool = disabled_marks (threads_of c.self.inside.places.slots c.self.inside.slab) c.args.scope_parents.now c.args.scope in
-    let m = subst (Marked c.self.inside.places.slots c.self.inside.slab c.self.invariant.0 marks) (sym c.mark_disabled.ensures) (marked c.self.inside.places.slots c.self.inside.slab c.self.invariant.0 marks) in
+    let m = subst (Marked c.self.inside.places.slots c.self.inside.slab c.self.invariant.0 marks) (sym c.mark_disabled.ensures.slots) (marked c.self.inside.places.slots c.self.inside.slab c.self.invariant.0 marks) in
     let chosen : running_first c.requires.running.0 (marked_serials c.mark_disabled.new.self.slots) ≡ disabled_serials (record { threads = threads_of c.self.inside.places.slots c.self.inside.slab; waiting = c.self.inside.waiting.queues }) c.requires.running.0 c.args.scope_parents.now c.args.scope = ap (running_first c.requires.running.0) m.serials in
     let P : List (Option Thread) → Type 0 = λ ts. IsSound ts c.self.inside.waiting.queues c.self.inside.waiting.spare in
     let s = subst P (sym m.threads) c.self.invariant.1 in
@@ -61,7 +61,7 @@ invariant_of-self g c =
     let u = under_view c.self.inside.places.slots c.self.inside.slab c.self.inside.waiting.queues c.args.self.now c.self.view_is c.self.invariant.0 c.requires.running.0 c.args.running c.requires.running.1 in
     let is : c.index.result.now.serial ≡ c.requires.running.0 = ap (λ t. t.serial) (some_same c.index.result.now u.thread (sym c.index.ensures ∙ u.kept)) ∙ u.serial_is in
     let marks : List Bool = disabled_marks (threads_of c.self.inside.places.slots c.self.inside.slab) c.args.scope_parents.now c.args.scope in
-    let m = subst (Marked c.self.inside.places.slots c.self.inside.slab c.self.invariant.0 marks) (sym c.mark_disabled.ensures) (marked c.self.inside.places.slots c.self.inside.slab c.self.invariant.0 marks) in
+    let m = subst (Marked c.self.inside.places.slots c.self.inside.slab c.self.invariant.0 marks) (sym c.mark_disabled.ensures.slots) (marked c.self.inside.places.slots c.self.inside.slab c.self.invariant.0 marks) in
     let chosen : running_first c.requires.running.0 (marked_serials c.mark_disabled.new.self.slots) ≡ disabled_serials (record { threads = threads_of c.self.inside.places.slots c.self.inside.slab; waiting = c.self.inside.waiting.queues }) c.requires.running.0 c.args.scope_parents.now c.args.scope = ap (running_first c.requires.running.0) m.serials in
     let P : List (Option Thread) → Type 0 = λ ts. IsSound ts c.self.inside.waiting.queues c.self.inside.waiting.spare in
     let s = subst P (sym m.threads) c.self.invariant.1 in
@@ -73,7 +73,7 @@ returns-clause-threads g c serial key =
     let u = under_view c.self.inside.places.slots c.self.inside.slab c.self.inside.waiting.queues c.args.self.now c.self.view_is c.self.invariant.0 serial c.args.running key in
     let is : c.index.result.now.serial ≡ serial = ap (λ t. t.serial) (some_same c.index.result.now u.thread (sym c.index.ensures ∙ u.kept)) ∙ u.serial_is in
     let marks : List Bool = disabled_marks (threads_of c.self.inside.places.slots c.self.inside.slab) c.args.scope_parents.now c.args.scope in
-    let m = subst (Marked c.self.inside.places.slots c.self.inside.slab c.self.invariant.0 marks) (sym c.mark_disabled.ensures) (marked c.self.inside.places.slots c.self.inside.slab c.self.invariant.0 marks) in
+    let m = subst (Marked c.self.inside.places.slots c.self.inside.slab c.self.invariant.0 marks) (sym c.mark_disabled.ensures.slots) (marked c.self.inside.places.slots c.self.inside.slab c.self.invariant.0 marks) in
     let chosen : running_first serial (marked_serials c.mark_disabled.new.self.slots) ≡ disabled_serials (record { threads = threads_of c.self.inside.places.slots c.self.inside.slab; waiting = c.self.inside.waiting.queues }) serial c.args.scope_parents.now c.args.scope = ap (running_first serial) m.serials in
     let P : List (Option Thread) → Type 0 = λ ts. IsSound ts c.self.inside.waiting.queues c.self.inside.waiting.spare in
     let s = subst P (sym m.threads) c.self.invariant.1 in
@@ -91,7 +91,7 @@ returns-clause-agenda g c serial key =
     let u = under_view c.self.inside.places.slots c.self.inside.slab c.self.inside.waiting.queues c.args.self.now c.self.view_is c.self.invariant.0 serial c.args.running key in
     let is : c.index.result.now.serial ≡ serial = ap (λ t. t.serial) (some_same c.index.result.now u.thread (sym c.index.ensures ∙ u.kept)) ∙ u.serial_is in
     let marks : List Bool = disabled_marks (threads_of c.self.inside.places.slots c.self.inside.slab) c.args.scope_parents.now c.args.scope in
-    let m = subst (Marked c.self.inside.places.slots c.self.inside.slab c.self.invariant.0 marks) (sym c.mark_disabled.ensures) (marked c.self.inside.places.slots c.self.inside.slab c.self.invariant.0 marks) in
+    let m = subst (Marked c.self.inside.places.slots c.self.inside.slab c.self.invariant.0 marks) (sym c.mark_disabled.ensures.slots) (marked c.self.inside.places.slots c.self.inside.slab c.self.invariant.0 marks) in
     let chosen : running_first serial (marked_serials c.mark_disabled.new.self.slots) ≡ disabled_serials (record { threads = threads_of c.self.inside.places.slots c.self.inside.slab; waiting = c.self.inside.waiting.queues }) serial c.args.scope_parents.now c.args.scope = ap (running_first serial) m.serials in
     let P : List (Option Thread) → Type 0 = λ ts. IsSound ts c.self.inside.waiting.queues c.self.inside.waiting.spare in
     let s = subst P (sym m.threads) c.self.invariant.1 in
