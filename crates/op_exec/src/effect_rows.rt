@@ -1,15 +1,16 @@
 //! The rows that load, store, jump, and ask something of the run.
 
-ghost use Rattle.std.specs.Prelude.{◌≡◌, ◌+◌, ◌<◌, ◌≤◌, Ok, OnErr, IfOk, IfSome, length, if◌then◌else◌};
+ghost use Rattle.std.specs.Prelude.{◌≡◌, ◌+◌, ◌<◌, ◌≤◌, Ok, OnErr, IfOk, IfSome, IfNone, length, if◌then◌else◌};
 ghost use Rattle.four_state.specs.Vector.{is_zero, is_one};
-ghost use Rattle.op_exec.specs.declared.effect.Effect.TheVariants.{Goto, Next, Release};
+ghost use Rattle.op_exec.specs.declared.effect.Effect.TheVariants.{Release};
+ghost use Rattle.op_exec.specs.declared.effect.Local.TheVariants.{Goto, Next};
 ghost use Rattle.op_exec.specs.Executable.{IsExecutable};
 ghost use Rattle.op_exec.specs.Rows.{is_blocked, value_of};
 ghost use Rattle.op_exec.specs.EffectRows.{offset_at, delay_at, word_at, word_or_x, loaded, stored, word_stored, assigned, offset_assigned, word_assigned, joined_last, forced, effect_row};
-ghost use Rattle.op_exec.specs.Outcomes.{with_trap};
+ghost use Rattle.op_exec.specs.Outcomes.{with_trap, IsDone};
 
 use crate::calls::{call_function, call_task};
-use crate::effect::{Effect, TrapKind};
+use crate::effect::{Effect, Local, TrapKind, effect_of};
 use crate::register_rows::{halves, value};
 use crate::stack_words::{DEPTH, fits, has_top, take};
 use four_state::{Bit, Values, Vec4};
@@ -123,47 +124,46 @@ fn wide<V: Values>(v: &V, item: u32) -> u8
 
 /// A jump, where a test says so.
 #[inline(always)]
-fn jump(target: u32, test: bool) -> Result<Effect, AllocError>
-    ensures { result ≡ Ok (if test then Goto target else Next) }
+fn jump(target: u32, test: bool) -> Local
+    ensures { result ≡ (if test then Goto target else Next) }
 {
     if test {
-        Ok(Effect::Goto(target))
+        Local::Goto(target)
     } else {
-        Ok(Effect::Next)
+        Local::Next
     }
 }
 
 /// Pushes a value.
 #[inline(always)]
 #[tactic(auto, unfolding(crate::specs::Rows::pushed))]
-fn push_value(t: &mut Frame, item: Vec4) -> Result<Effect, AllocError>
-    ensures done { IfOk result (λ effect. with_trap t.old (loaded t.old item) ≡ (t.new, effect)) }
-    ensures kept { OnErr result (t.new ≡ t.old) }
+fn push_value(t: &mut Frame, item: Vec4) -> Local
+    ensures { IsDone result t.old t.new (with_trap t.old (loaded t.old item)) }
 {
     if t.stack.len() >= DEPTH {
-        return Ok(Effect::Trap(TrapKind::StackOver));
+        return Local::Trap(TrapKind::StackOver);
     }
-    t.stack.push(item)?;
-    Ok(Effect::Next)
+    match t.stack.push(item) {
+        Ok(()) => Local::Next,
+        Err(_) => Local::NoMemory,
+    }
 }
 
 /// Pushes the value of an item.
 #[inline(never)]
-fn load<V: Values>(t: &mut Frame, v: &V, item: u32) -> Result<Effect, AllocError>
+fn load<V: Values>(t: &mut Frame, v: &V, item: u32) -> Local
     requires { 1 ≤ length (V.words_of v.now item) }
-    ensures done { IfOk result (λ effect. with_trap t.old (loaded t.old (value_of (V.words_of v.now item))) ≡ (t.new, effect)) }
-    ensures kept { OnErr result (t.new ≡ t.old) }
+    ensures { IsDone result t.old t.new (with_trap t.old (loaded t.old (value_of (V.words_of v.now item)))) }
 {
     push_value(t, value(v, item))
 }
 
 /// Pushes a word of an array, or all x.
 #[inline(never)]
-fn load_word<V: Values>(t: &mut Frame, v: &V, array: u32, index: u64) -> Result<Effect, AllocError>
+fn load_word<V: Values>(t: &mut Frame, v: &V, array: u32, index: u64) -> Local
     requires index { index < 16 }
     requires array { 1 ≤ length (V.words_of v.now array) }
-    ensures done { IfOk result (λ effect. with_trap t.old (loaded t.old (word_or_x (V.words_of v.now array) (word_at t.old (V.words_of v.now array) index))) ≡ (t.new, effect)) }
-    ensures kept { OnErr result (t.new ≡ t.old) }
+    ensures { IsDone result t.old t.new (with_trap t.old (loaded t.old (word_or_x (V.words_of v.now array) (word_at t.old (V.words_of v.now array) index)))) }
 {
     let word = word_at(t, v, array, index);
     push_value(t, word_or_x(v, array, word))
@@ -362,6 +362,29 @@ fn release<V: Values>(
     })
 }
 
+/// Does the row of `op` on the frame, where it loads or jumps; none, and nothing is done, where it asks more of the run.
+#[inline(always)]
+pub(crate) fn local_row<V: Values>(op: &Op<u32>, t: &mut Frame, v: &V) -> Option<Local>
+    requires { IsExecutable (V.words_of v.now) op.now }
+    ensures done { IfSome result (λ local. IsDone local t.old t.new (with_trap t.old (effect_row op.now t.old (V.words_of v.now)))) }
+    ensures kept { IfNone result (t.new ≡ t.old) }
+{
+    match op {
+        Op::Nop => Some(Local::Next),
+        Op::Load { item } => Some(load(t, v, *item)),
+        Op::LoadWord { array, index } => Some(load_word(t, v, *array, *index)),
+        Op::Jump { target } => Some(Local::Goto(*target)),
+        Op::JumpIfZero { target, flag } => Some(jump(*target, is_zero(t.flags[*flag as usize]))),
+        Op::JumpIfOne { target, flag } => Some(jump(*target, is_one(t.flags[*flag as usize]))),
+        Op::JumpUnlessOne { target, flag } => Some(jump(*target, !is_one(t.flags[*flag as usize]))),
+        Op::JumpUnlessZero { target, flag } => Some(jump(
+            *target,
+            !is_zero(t.flags[*flag as usize]),
+        )),
+        _ => None,
+    }
+}
+
 /// Does the row of `op` on the frame and answers its effect, or its first trap. On a trap and for want of memory the frame is
 /// as before.
 #[inline(always)]
@@ -376,8 +399,8 @@ pub(crate) fn effect_row<V: Values>(
 {
     match op {
         Op::Nop => Ok(Effect::Next),
-        Op::Load { item } => load(t, v, *item),
-        Op::LoadWord { array, index } => load_word(t, v, *array, *index),
+        Op::Load { item } => effect_of(load(t, v, *item)),
+        Op::LoadWord { array, index } => effect_of(load_word(t, v, *array, *index)),
         Op::Store {
             item,
             offset,
@@ -404,10 +427,19 @@ pub(crate) fn effect_row<V: Values>(
             delay,
         } => assign_word(t, v, *array, *offset, *delay),
         Op::Jump { target } => Ok(Effect::Goto(*target)),
-        Op::JumpIfZero { target, flag } => jump(*target, is_zero(t.flags[*flag as usize])),
-        Op::JumpIfOne { target, flag } => jump(*target, is_one(t.flags[*flag as usize])),
-        Op::JumpUnlessOne { target, flag } => jump(*target, !is_one(t.flags[*flag as usize])),
-        Op::JumpUnlessZero { target, flag } => jump(*target, !is_zero(t.flags[*flag as usize])),
+        Op::JumpIfZero { target, flag } => effect_of(jump(
+            *target,
+            is_zero(t.flags[*flag as usize]),
+        )),
+        Op::JumpIfOne { target, flag } => effect_of(jump(*target, is_one(t.flags[*flag as usize]))),
+        Op::JumpUnlessOne { target, flag } => effect_of(jump(
+            *target,
+            !is_one(t.flags[*flag as usize]),
+        )),
+        Op::JumpUnlessZero { target, flag } => effect_of(jump(
+            *target,
+            !is_zero(t.flags[*flag as usize]),
+        )),
         Op::Delay { low, high } => Ok(Effect::Delay(halves(*low, *high))),
         Op::DelayRegister { register } => Ok(Effect::Delay(t.registers[*register as usize])),
         Op::Wait { event } => Ok(Effect::Wait(*event)),

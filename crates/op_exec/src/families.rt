@@ -1,13 +1,14 @@
 //! One opcode, by the family of its row.
 
-ghost use Rattle.std.specs.Prelude.{◌≡◌, IfOk, OnErr};
+ghost use Rattle.std.specs.Prelude.{◌≡◌, IfOk, OnErr, IfSome, IfNone};
 ghost use Rattle.op_exec.specs.Executable.{IsExecutable};
 ghost use Rattle.op_exec.specs.Does.{family_of, does};
+ghost use Rattle.op_exec.specs.Outcomes.{IsDone};
 
 use crate::arithmetic_rows::arithmetic_row;
 use crate::comparison_rows::comparison_row;
-use crate::effect::{Effect, Memory};
-use crate::effect_rows::effect_row;
+use crate::effect::{Effect, Local, Memory, effect_of};
+use crate::effect_rows::{effect_row, local_row};
 use crate::register_rows::register_row;
 use crate::stack_rows::stack_row;
 use four_state::Values;
@@ -64,6 +65,41 @@ fn family_for(op: &Op<u32>) -> Family
     }
 }
 
+/// Does the row of `op` on a thread's frame, where it asks nothing of the run but to go on: it pushes, computes, loads or
+/// jumps. None, and nothing is done, where it asks more.
+///
+/// The place in the code stays. A trap leaves the frame, and so does want of memory.
+#[inline]
+#[tactic(auto, unfolding(crate::specs::Does::does, crate::specs::Does::stack_does, crate::specs::Does::register_does, crate::specs::Does::arithmetic_does, crate::specs::Does::comparison_does, crate::specs::Does::effect_does))]
+pub fn exec_local<V: Values>(op: &Op<u32>, t: &mut Frame, v: &V) -> Option<Local>
+    requires { IsExecutable (V.words_of v.now) op.now }
+    ensures done { IfSome result (λ local. IsDone local t.old t.new (does op.now t.old (V.words_of v.now))) }
+    ensures kept { IfNone result (t.new ≡ t.old) }
+    ensures asks { IfNone result (family_of op.now ≡ Family.Effect) }
+{
+    match family_for(op) {
+        Family::Stack => match stack_row(op, t) {
+            Ok(Memory::Enough) => Some(Local::Next),
+            Ok(Memory::Short) => Some(Local::NoMemory),
+            Err(kind) => Some(Local::Trap(kind)),
+        },
+        Family::Register => match register_row(op, t, v) {
+            Ok(Memory::Enough) => Some(Local::Next),
+            Ok(Memory::Short) => Some(Local::NoMemory),
+            Err(kind) => Some(Local::Trap(kind)),
+        },
+        Family::Arithmetic => match arithmetic_row(op, t) {
+            Ok(()) => Some(Local::Next),
+            Err(kind) => Some(Local::Trap(kind)),
+        },
+        Family::Comparison => match comparison_row(op, t) {
+            Ok(()) => Some(Local::Next),
+            Err(kind) => Some(Local::Trap(kind)),
+        },
+        Family::Effect => local_row(op, t, v),
+    }
+}
+
 /// Does the row of `op` on a thread's frame, and says what is left to do: the effect, or the first trap.
 ///
 /// It changes the stack, the flags, the registers and the children; the place in the code stays. A trap leaves the frame. The
@@ -79,25 +115,8 @@ pub fn exec<V: Values>(op: &Op<u32>, t: &mut Frame, v: &V) -> Result<Effect, All
     ensures done { IfOk result (λ effect. does op.now t.old (V.words_of v.now) ≡ (t.new, effect)) }
     ensures unchanged { OnErr result (t.new ≡ t.old) }
 {
-    match family_for(op) {
-        Family::Stack => match stack_row(op, t) {
-            Ok(Memory::Enough) => Ok(Effect::Next),
-            Ok(Memory::Short) => Err(AllocError),
-            Err(kind) => Ok(Effect::Trap(kind)),
-        },
-        Family::Register => match register_row(op, t, v) {
-            Ok(Memory::Enough) => Ok(Effect::Next),
-            Ok(Memory::Short) => Err(AllocError),
-            Err(kind) => Ok(Effect::Trap(kind)),
-        },
-        Family::Arithmetic => match arithmetic_row(op, t) {
-            Ok(()) => Ok(Effect::Next),
-            Err(kind) => Ok(Effect::Trap(kind)),
-        },
-        Family::Comparison => match comparison_row(op, t) {
-            Ok(()) => Ok(Effect::Next),
-            Err(kind) => Ok(Effect::Trap(kind)),
-        },
-        Family::Effect => effect_row(op, t, v),
+    match exec_local(op, t, v) {
+        Some(local) => effect_of(local),
+        None => effect_row(op, t, v),
     }
 }

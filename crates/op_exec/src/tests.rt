@@ -3,7 +3,7 @@
 ghost use Rattle.std.specs.Prelude.{All, [], ◌∷◌};
 ghost use Rattle.op_exec.specs.Executable.{IsExecutable};
 
-use crate::{Effect, TrapKind, exec};
+use crate::{Effect, Local, TrapKind, exec, exec_local};
 use four_state::{Bit, Values, Vec4};
 use std::alloc::Global;
 use std::test::Fail;
@@ -190,6 +190,16 @@ fn array_words(alloc: Global) -> Result<bool, Fail> {
     )
 }
 
+/// Whether a jump asks no more than to go on, and the end of a thread more.
+fn local_rows(alloc: Global) -> bool {
+    let values = Alike {
+        word: Vec4::splat(Bit::One, 1),
+    };
+    let mut t = Frame::new(alloc, 0);
+    let jump = exec_local(&Op::Jump { target: 3 }, &mut t, &values);
+    jump == Some(Local::Goto(3)) && exec_local(&Op::End, &mut t, &values).is_none()
+}
+
 #[test]
 fn opcode_lists(rt: HostRuntime) -> Result<(), Fail> {
     let alloc = rt.alloc();
@@ -197,5 +207,6 @@ fn opcode_lists(rt: HostRuntime) -> Result<(), Fail> {
     assert!(rt; stack_traps(alloc)?);
     assert!(rt; printed_unknowns(alloc)?);
     assert!(rt; array_words(alloc)?);
+    assert!(rt; local_rows(alloc));
     Ok(())
 }
