@@ -17,14 +17,14 @@ use Rattle.vvp_threads.specs.Keyed.{KeyedTable}
 use Rattle.vvp_threads.specs.Runs.{HasRuns}
 use Rattle.sym_link.specs.declared.program.Program.{Program}
 use Rattle.sym_link.specs.declared.program.ItemKind.{ItemKind}
-use Rattle.sym_link.specs.declared.program.ItemKind.TheVariants.{Var, Delay, Array}
+use Rattle.sym_link.specs.declared.program.ItemKind.TheVariants.{Var, Net, Functor, Edge, Named, AnyOf, Array, Scope, Param, Delay}
 use Rattle.sym_link.specs.Roots.{Node, node_of, nodes_of, kind_of, root_of}
 use Rattle.sym_link.specs.Sound.{IsProgram, IsKind, is_value_kind}
 use Rattle.net_engine.specs.declared.store.Change.{Change}
 use Rattle.net_engine.specs.Net.{NetValues, Request, driven_of, forced_of, levels_of, array_of, request_of, value_of, output_of, strongly, with_parts, with_word, with_request, first_values}
 use Rattle.net_engine.specs.Delivery.{change, force, release, trigger, write, mature, eval, asked, postponed, follows_after, driven_after, forced_after}
 use Rattle.net_engine.specs.Kept.{NetNow, Fits, Delivers, IsDelay, IsWritable, has_output, evals_lacking}
-use Rattle.net_engine.specs.Parts.{IsNet, IsLinked, AreWide, IsChange, Reaches, HasLevels, HasValue, has_value, followed, net_of}
+use Rattle.net_engine.specs.Parts.{IsNet, IsLinked, AreWide, IsChange, Reaches, HasLevels, HasValue, IsGateKind, has_value, followed, net_of}
 use Rattle.net_engine.proofs.LinkedLemmas.{node-of-kind, item-at, item-sound, such-within}
 use Rattle.net_engine.proofs.RootLemmas.{rooted, own-width, levels-such}
 use Rattle.net_engine.proofs.StepLemmas.{refilled}
@@ -169,24 +169,45 @@ array-call net nodes values new_values marks item word words offset sent value t
 
 -- ---- evaluations
 
-pub delay-call : (net new_net : NetNow) (nodes : List Node) (values : NetValues) (marks lent : List Bool) (item rise fall decay port : ℕ) (wanted : List Interval) (threads new_threads : KeyedTable) (s new : Schedule) → net_of nodes values marks ≡ net
+pub delay-call : (net new_net : NetNow) (nodes : List Node) (values : NetValues) (marks : List Bool) (item rise fall decay port : ℕ) (wanted : List Interval) (threads new_threads : KeyedTable) (s new : Schedule) → net_of nodes values marks ≡ net
     → kind_of nodes item ≡ Some (Delay rise fall decay port) → wanted ≡ value_of nodes values port
-    → Delivers (asked nodes item (record { rise = rise; fall = fall; decay = decay }) wanted (request_of values item).kept) (net_of nodes values lent) new_net threads new_threads s new
+    → Delivers (asked nodes item (record { rise = rise; fall = fall; decay = decay }) wanted (request_of values item).kept) (net_of nodes values marks) new_net threads new_threads s new
     → Delivers (eval net.nodes item) net new_net threads new_threads s new
-delay-call net new_net nodes values marks lent item rise fall decay port wanted threads new_threads s new view kind is d =
+delay-call net new_net nodes values marks item rise fall decay port wanted threads new_threads s new view kind is d =
     let found = node-of-kind nodes item (Delay rise fall decay port) kind in
     subst (λ (n : NetNow). Delivers (eval n.nodes item) n new_net threads new_threads s new) view
-    (eval-delay nodes item found.0 rise fall decay port wanted (request_of values item).kept (net_of nodes values marks) new_net threads new_threads s new found.1 found.2 is refl
-    (delivers-marks (asked nodes item (record { rise = rise; fall = fall; decay = decay }) wanted (request_of values item).kept) lent (net_of nodes values marks) new_net threads new_threads s new d))
+    (eval-delay nodes item found.0 rise fall decay port wanted (request_of values item).kept (net_of nodes values marks) new_net threads new_threads s new found.1 found.2 is refl d)
 
-pub gate-call : (net new_net : NetNow) (nodes : List Node) (values : NetValues) (marks lent : List Bool) (item : ℕ) (kind : ItemKind) (levels : List Interval) (threads new_threads : KeyedTable) (s new : Schedule) → net_of nodes values marks ≡ net
-    → kind_of nodes item ≡ Some kind → ((rise fall decay port : ℕ) → kind ≡ Delay rise fall decay port → ⊥) → ((node : Node) → slice_get nodes item ≡ Some node → levels ≡ output_of nodes values node)
-    → Delivers (change nodes item levels) (net_of nodes values lent) new_net threads new_threads s new → Delivers (eval net.nodes item) net new_net threads new_threads s new
-gate-call net new_net nodes values marks lent item kind levels threads new_threads s new view is gate gives d =
-    let found = node-of-kind nodes item kind is in
+-- a gate is no net delay
+gate-of : (k : Option ItemKind) → IsGateKind k → (kind : ItemKind) × (k ≡ Some kind) × ((rise fall decay port : ℕ) → kind ≡ Delay rise fall decay port → ⊥)
+gate-of (Some (Functor gate drive ports)) h = (Functor gate drive ports, refl, λ rise fall decay port e. (let never : Functor gate drive ports ≡ Delay rise fall decay port = e in cc))
+gate-of (Some (Var integer)) h = absurd h
+gate-of (Some (Net root)) h = absurd h
+gate-of (Some (Edge kind ports)) h = absurd h
+gate-of (Some Named) h = absurd h
+gate-of (Some (AnyOf events)) h = absurd h
+gate-of (Some (Array words)) h = absurd h
+gate-of (Some (Scope scope)) h = absurd h
+gate-of (Some Param) h = absurd h
+gate-of (Some (Delay rise fall decay port)) h = absurd h
+gate-of None h = absurd h
+
+-- a gate was evaluated, and what it drives was changed
+pub gate-done : (net new_net : NetNow) (nodes : List Node) (values : NetValues) (marks : List Bool) (item : ℕ) (levels : List Interval) (threads new_threads : KeyedTable) (s new : Schedule) → net_of nodes values marks ≡ net
+    → IsGateKind (kind_of net.nodes item) → ((node : Node) → slice_get nodes item ≡ Some node → levels ≡ output_of nodes values node)
+    → Delivers (change nodes item levels) (net_of nodes values marks) new_net threads new_threads s new → Delivers (eval net.nodes item) net new_net threads new_threads s new
+gate-done net new_net nodes values marks item levels threads new_threads s new view gate gives d =
+    let kind = gate-of (kind_of nodes item) (subst (λ (n : NetNow). IsGateKind (kind_of n.nodes item)) (sym view) gate) in
+    let found = node-of-kind nodes item kind.0 kind.1 in
     subst (λ (n : NetNow). Delivers (eval n.nodes item) n new_net threads new_threads s new) view
-    (eval-gate nodes item found.0 levels (net_of nodes values marks) new_net threads new_threads s new found.1 (λ rise fall decay port e. gate rise fall decay port (sym found.2 ∙ e)) (gives found.0 found.1)
-    (delivers-marks (change nodes item levels) lent (net_of nodes values marks) new_net threads new_threads s new d))
+    (eval-gate nodes item found.0 levels (net_of nodes values marks) new_net threads new_threads s new found.1 (λ rise fall decay port e. kind.2 rise fall decay port (sym found.2 ∙ e)) (gives found.0 found.1) d)
+
+-- the mark of an item that was evaluated
+pub eval-call : (net new_net : NetNow) (nodes : List Node) (values : NetValues) (marks lent : List Bool) (item : ℕ) (threads new_threads : KeyedTable) (s new : Schedule) → net_of nodes values marks ≡ net
+    → Delivers (eval nodes item) (net_of nodes values lent) new_net threads new_threads s new → Delivers (eval net.nodes item) net new_net threads new_threads s new
+eval-call net new_net nodes values marks lent item threads new_threads s new view d =
+    subst (λ (n : NetNow). Delivers (eval n.nodes item) n new_net threads new_threads s new) view
+    (delivers-marks (eval nodes item) lent (net_of nodes values marks) new_net threads new_threads s new d)
 
 -- the port of a net delay
 pub delay-port : (nodes : List Node) (values : NetValues) (item rise fall decay port : ℕ) → IsLinked nodes → AreWide nodes values → kind_of nodes item ≡ Some (Delay rise fall decay port)

@@ -25,3 +25,4 @@ pub mod PlainLemmas
 pub mod CallLemmas
 pub mod BuildLemmas
 pub mod TestLemmas
+mod WholeLemmas

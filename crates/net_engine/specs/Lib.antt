@@ -6,3 +6,4 @@ pub mod Readers
 pub mod Slots
 pub mod Parts
 pub mod Built
+pub mod Outputs

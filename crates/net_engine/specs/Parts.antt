@@ -142,6 +142,11 @@ abbrev pub IsChange : Option Change → List Interval → List Interval → Type
 IsChange None old new = same_levels old new ≡ true
 IsChange (Some change) old new = (same_levels old new ≡ false) × (change.old ≡ seen old) × (change.new ≡ seen new)
 
+-- a change, if it is one
+abbrev pub change_if : Bool → Change → Option Change
+change_if true change = Some change
+change_if false change = None
+
 -- what follows where an item shows other levels than before
 abbrev pub followed : List Node → ℕ → List Interval → List Interval → State → State
 followed nodes item old new state = if same_levels old new then state else delivered nodes (seen old) (seen new) item state

@@ -5,15 +5,8 @@ use Rattle.std.specs.Option.{ForSome}
 use Rattle.four_state.specs.declared.bits.Bit.{Bit}
 use Rattle.four_state.specs.declared.bits.Bit.TheVariants.{Unknown}
 use Rattle.strengths.specs.Interval.{Interval}
-use Rattle.net_engine.specs.declared.driver.Driver.{Driver}
-use Rattle.net_engine.specs.declared.driver.Driver.TheVariants.{Bits, Levels}
 use Rattle.net_engine.specs.Net.{shown_level, seen, strongly}
 use Rattle.net_engine.specs.Delivery.{forced_after, kept_after}
-
--- the levels that an item is to be driven with: bits are driven as a variable drives them
-abbrev pub levels_by : Driver → List Interval
-levels_by (Bits bits) = strongly bits
-levels_by (Levels levels) = levels
 
 -- ---- the value of an item
 

@@ -1,12 +1,12 @@
 //! How a change reaches the inputs that an item drives (IEEE 1364-2005, 9.7 and 11.3).
 
-ghost use Rattle.std.specs.Prelude.{◌≡◌, ℕ, ◌<◌, ◌≤◌, ◌+◌, Bool, true, false, List, length, Some, IfSome, slice_set, slice_index_or};
+ghost use Rattle.std.specs.Prelude.{◌≡◌, ℕ, ◌<◌, ◌≤◌, ◌+◌, Bool, true, false, List, length, Some, slice_set, slice_index_or};
 ghost use Rattle.event_pool.specs.Schedule.{put_due};
 ghost use Rattle.event_pool.specs.Pending.{eval_of};
 ghost use Rattle.strengths.specs.Interval.{Interval};
 ghost use Rattle.sym_link.specs.Roots.{kind_of};
 ghost use Rattle.net_engine.specs.Delivery.{trigger, reached, delivered, wake};
-ghost use Rattle.net_engine.specs.Parts.{HasBits, IsChange, MayFit, Reaches, followed};
+ghost use Rattle.net_engine.specs.Parts.{HasBits, IsChange, MayFit, Reaches, change_if, followed};
 
 use crate::design::Design;
 use crate::edges::fires;
@@ -120,22 +120,23 @@ fn deliver<F: Fanout + Drop, A: Agenda>(
     }
 }
 
-/// What follows from a change of an item, if there is one.
+/// What follows from a change of an item, if it changed.
 pub(crate) fn follow<F: Fanout + Drop, A: Agenda>(
     design: &Design<F>,
     marks: &mut [bool],
     item: u32,
-    change: Option<Change>,
+    changed: bool,
+    change: &Change,
     agenda: &mut A,
     threads: &mut Threads,
 )
     requires item { item < length design.now }
-    requires bits { IfSome change HasBits }
+    requires bits { changed ≡ true → HasBits change.now }
     requires fits { MayFit design.now marks.old threads.old (A.schedule agenda.old) }
-    ensures { (old new : List Interval) → IsChange change old new → Reaches (followed design.now item old new) design.now
+    ensures { (old new : List Interval) → IsChange (change_if changed change.now) old new → Reaches (followed design.now item old new) design.now
         marks.old marks.new threads.old threads.new (A.schedule agenda.old) (A.schedule agenda.new) }
 {
-    if let Some(change) = change {
-        deliver(design, marks, item, &change, agenda, threads);
+    if changed {
+        deliver(design, marks, item, change, agenda, threads);
     }
 }

@@ -9,7 +9,6 @@
 mod build;
 mod deliver;
 mod design;
-mod driver;
 mod edges;
 mod net;
 mod outputs;

@@ -1,23 +1,23 @@
 //! A net.
 
-ghost use Rattle.std.specs.Prelude.{◌≡◌, ℕ, ◌+◌, ◌-◌, ◌<◌, ◌≤◌, ◌^◌, [], Option, List, length, map, Some, None, IfOk, slice_get, slice_index_or};
+ghost use Rattle.std.specs.Prelude.{◌≡◌, ℕ, ◌+◌, ◌-◌, ◌<◌, ◌≤◌, ◌^◌, true, [], Option, List, length, map, Some, None, IfOk, slice_get, slice_index_or};
+ghost use Rattle.four_state.specs.declared.bits.Bit.{Bit};
+ghost use Rattle.four_state.specs.Vector.{overlaid};
 ghost use Rattle.sym_link.specs.Roots.{Node, nodes_of, kind_of};
 ghost use Rattle.sym_link.specs.Sound.{IsProgram};
 ghost use Rattle.vvp_threads.specs.Runs.{HasRuns};
 ghost use Rattle.strengths.specs.Interval.{Interval};
-ghost use Rattle.net_engine.specs.Net.{with_request, words_of, value_of, driven_of, forced_of, request_of, first_values};
+ghost use Rattle.net_engine.specs.Net.{with_request, words_of, value_of, driven_of, forced_of, request_of, strongly, first_values};
 ghost use Rattle.net_engine.specs.Delivery.{write, eval, mature, force, release, trigger, change, variable_assigned, asked, asked_anew, follows_after, postponed};
 ghost use Rattle.net_engine.specs.Kept.{Fits, FitsBut, Delivers, IsWritable, IsDelay, HasOutput, has_output, evals_lacking};
 ghost use Rattle.net_engine.specs.Readers.{driven_ports};
-ghost use Rattle.net_engine.specs.Slots.{levels_by};
-ghost use Rattle.net_engine.specs.Parts.{plane_of, HasLevels, HasValue, AreWide, AsksAtMost, keeps};
+ghost use Rattle.net_engine.specs.Parts.{plane_of, HasLevels, HasValue, AreWide, AsksAtMost, IsGateKind, keeps};
 
 use crate::build::{design_of, marks_of, store_of};
 use crate::deliver::{follow, trigger};
 use crate::design::Design;
-use crate::driver::Driver;
-use crate::outputs::output;
-use crate::store::{Request, Store};
+use crate::outputs::{bits_output, is_told_by_bits, levels_output};
+use crate::store::{Change, Request, Store};
 use crate::times::Times;
 use event_pool::{Act, Agenda, Due, Region};
 use four_state::{Values, Vec4};
@@ -40,6 +40,9 @@ pub struct Net<F: Fanout + Drop> {
     design: Design<F>,
     store: Store,
     marks: Vec<bool>,
+    // What an evaluation has at its ports, and what changed last. Each call overwrites them, so that none makes its own.
+    ports: [Option<Vec4>; 4],
+    latest: Change,
 }
 
 impl<F: Fanout + Drop> Model for Net<F> {
@@ -51,6 +54,18 @@ impl<F: Fanout + Drop> Model for Net<F> {
     ghost view = { λ n. record { nodes = n.design; values = n.store; marks = n.marks.items } };
 
     ghost invariant = { λ n. IsNet n.design n.store n.marks.items };
+}
+
+// Whether a value that is laid over so many bits, from the place `offset` up, takes the place of all of them.
+fn covers(offset: i64, value: &Vec4, width: u8) -> bool
+    ensures value { result ≡ true → (bits : List Bit) → length bits ≡ width → overlaid bits offset value.now ≡ value.now }
+    ensures width { result ≡ true → length value.now ≡ width }
+{
+    if offset == 0 {
+        value.width() == width
+    } else {
+        false
+    }
 }
 
 // Whether a request keeps these levels.
@@ -78,6 +93,8 @@ impl<F: Fanout + Drop> Net<F> {
             design: design_of(alloc, program, fan)?,
             store: store_of(alloc, program)?,
             marks: marks_of(alloc, program)?,
+            ports: [None, None, None, None],
+            latest: Change::none(),
         })
     }
 
@@ -143,26 +160,53 @@ impl<F: Fanout + Drop> Net<F> {
         (request.serial, request.kept)
     }
 
-    // An item is driven otherwise.
-    fn change<A: Agenda>(
+    // An item is driven with other bits, as a variable is driven.
+    fn change_bits<A: Agenda>(
         &mut self,
         item: u32,
-        driver: Driver,
+        bits: Vec4,
         agenda: &mut A,
         threads: &mut Threads,
     )
         requires fits { Fits self.old threads.old (A.schedule agenda.old) }
         requires there { 1 ≤ length (driven_of self.old.values item) }
-        requires width { length (levels_by driver) ≡ length (driven_of self.old.values item) }
-        ensures state { Delivers (change self.old.nodes item (levels_by driver)) self.old self.new threads.old threads.new (A.schedule agenda.old) (A.schedule agenda.new) }
+        requires width { length bits ≡ length (driven_of self.old.values item) }
+        ensures state { Delivers (change self.old.nodes item (strongly bits)) self.old self.new threads.old threads.new (A.schedule agenda.old) (A.schedule agenda.new) }
         ensures requests { self.new.values.requests ≡ self.old.values.requests }
     {
-        let change = self.store.drive(item, driver);
+        let changed = self.store.drive_bits(item, bits, &mut self.latest);
         follow(
             &self.design,
             self.marks.as_mut_slice(),
             item,
-            change,
+            changed,
+            &self.latest,
+            agenda,
+            threads,
+        );
+    }
+
+    // An item is driven with other levels.
+    fn change_levels<A: Agenda>(
+        &mut self,
+        item: u32,
+        levels: Vec8,
+        agenda: &mut A,
+        threads: &mut Threads,
+    )
+        requires fits { Fits self.old threads.old (A.schedule agenda.old) }
+        requires there { 1 ≤ length (driven_of self.old.values item) }
+        requires width { length levels ≡ length (driven_of self.old.values item) }
+        ensures state { Delivers (change self.old.nodes item levels) self.old self.new threads.old threads.new (A.schedule agenda.old) (A.schedule agenda.new) }
+        ensures requests { self.new.values.requests ≡ self.old.values.requests }
+    {
+        let changed = self.store.drive_levels(item, levels, &mut self.latest);
+        follow(
+            &self.design,
+            self.marks.as_mut_slice(),
+            item,
+            changed,
+            &self.latest,
             agenda,
             threads,
         );
@@ -182,8 +226,30 @@ impl<F: Fanout + Drop> Net<F> {
         ensures state { Delivers (variable_assigned self.old.nodes item offset value) self.old self.new threads.old threads.new (A.schedule agenda.old) (A.schedule agenda.new) }
         ensures requests { self.new.values.requests ≡ self.old.values.requests }
     {
+        if covers(offset, &value, self.store.width(item)) {
+            self.change_bits(item, value, agenda, threads);
+        } else {
+            self.assign_part(item, offset, value, agenda, threads);
+        }
+    }
+
+    // The same where the value leaves some places as they are. It stands out of line, so that a whole value pays nothing for it.
+    #[inline(never)]
+    fn assign_part<A: Agenda>(
+        &mut self,
+        item: u32,
+        offset: i64,
+        value: Vec4,
+        agenda: &mut A,
+        threads: &mut Threads,
+    )
+        requires fits { Fits self.old threads.old (A.schedule agenda.old) }
+        requires there { 1 ≤ length (driven_of self.old.values item) }
+        ensures state { Delivers (variable_assigned self.old.nodes item offset value) self.old self.new threads.old threads.new (A.schedule agenda.old) (A.schedule agenda.new) }
+        ensures requests { self.new.values.requests ≡ self.old.values.requests }
+    {
         let bits = self.store.driven_bits(item).put(offset, value);
-        self.change(item, Driver::Bits(bits), agenda, threads);
+        self.change_bits(item, bits, agenda, threads);
     }
 
     /// Lays a value over a variable, word 0, or over a word of an array, from the place `offset` up; what lies outside is
@@ -219,6 +285,49 @@ impl<F: Fanout + Drop> Net<F> {
     {
         self.marks[item as usize] = false;
         match self.design.kind(item) {
+            ItemKind::Delay { .. } => self.eval_delay(item, agenda, threads),
+            _ => self.eval_gate(item, agenda, threads),
+        }
+    }
+
+    // A gate that is marked no more is evaluated.
+    fn eval_gate<A: Agenda>(&mut self, item: u32, agenda: &mut A, threads: &mut Threads)
+        requires fits { Fits self.old threads.old (A.schedule agenda.old) }
+        requires gate { IsGateKind (kind_of self.old.nodes item) }
+        ensures state { Delivers (eval self.old.nodes item) self.old self.new threads.old threads.new (A.schedule agenda.old) (A.schedule agenda.new) }
+        ensures requests { self.new.values.requests ≡ self.old.values.requests }
+    {
+        if is_told_by_bits(&self.design, &self.store, item) {
+            let bits = bits_output(&self.design, &self.store, item, &mut self.ports);
+            self.change_bits(item, bits, agenda, threads);
+        } else {
+            self.eval_levels(item, agenda, threads);
+        }
+    }
+
+    // The same by the levels at the gate's ports. It stands out of line, so that a gate that goes by bits pays nothing for it.
+    #[inline(never)]
+    fn eval_levels<A: Agenda>(&mut self, item: u32, agenda: &mut A, threads: &mut Threads)
+        requires fits { Fits self.old threads.old (A.schedule agenda.old) }
+        requires gate { IsGateKind (kind_of self.old.nodes item) }
+        ensures state { Delivers (eval self.old.nodes item) self.old self.new threads.old threads.new (A.schedule agenda.old) (A.schedule agenda.new) }
+        ensures requests { self.new.values.requests ≡ self.old.values.requests }
+    {
+        let levels = levels_output(&self.design, &self.store, item);
+        self.change_levels(item, levels, agenda, threads);
+    }
+
+    // A net delay that is marked no more is evaluated. It stands out of line for the same reason.
+    #[inline(never)]
+    fn eval_delay<A: Agenda>(&mut self, item: u32, agenda: &mut A, threads: &mut Threads)
+        requires fits { Fits self.old threads.old (A.schedule agenda.old) }
+        requires more { HasRuns threads.old (evals_lacking self.old.nodes (A.schedule agenda.old).dues + 1) (A.schedule agenda.old) }
+        requires item { IsDelay (kind_of self.old.nodes item) }
+        requires serial { (request_of self.old.values item).serial < 2 ^ 64 - 1 }
+        ensures state { Delivers (eval self.old.nodes item) self.old self.new threads.old threads.new (A.schedule agenda.old) (A.schedule agenda.new) }
+        ensures requests { AsksAtMost 1 self.old.values self.new.values }
+    {
+        match self.design.kind(item) {
             ItemKind::Delay {
                 rise,
                 fall,
@@ -233,10 +342,7 @@ impl<F: Fanout + Drop> Net<F> {
                 let wanted = self.store.shown(self.design.root(*port));
                 self.ask(item, times, wanted, agenda, threads);
             }
-            _ => {
-                let driver = output(&self.design, &self.store, item);
-                self.change(item, driver, agenda, threads);
-            }
+            _ => unreachable!(),
         }
     }
 
@@ -316,7 +422,7 @@ impl<F: Fanout + Drop> Net<F> {
             self.postpone(item, ticks, wanted, request.serial, agenda, threads);
         } else {
             self.store.set_request(item, request);
-            self.change(item, Driver::Levels(wanted), agenda, threads);
+            self.change_levels(item, wanted, agenda, threads);
         }
     }
 
@@ -372,7 +478,7 @@ impl<F: Fanout + Drop> Net<F> {
         }
         if let Some(kept) = request.kept {
             self.store.set_request(item, Request { serial, kept: None });
-            self.change(item, Driver::Levels(kept), agenda, threads);
+            self.change_levels(item, kept, agenda, threads);
         }
     }
 
@@ -391,12 +497,13 @@ impl<F: Fanout + Drop> Net<F> {
         ensures requests { self.new.values.requests ≡ self.old.values.requests }
     {
         let root = self.design.root(item);
-        let change = self.store.force(root, value);
+        let changed = self.store.force(root, value, &mut self.latest);
         follow(
             &self.design,
             self.marks.as_mut_slice(),
             root,
-            change,
+            changed,
+            &self.latest,
             agenda,
             threads,
         );
@@ -420,12 +527,15 @@ impl<F: Fanout + Drop> Net<F> {
         ensures requests { self.new.values.requests ≡ self.old.values.requests }
     {
         let root = self.design.root(item);
-        let change = self.store.release(root, base as u8, width, keep);
+        let changed = self
+            .store
+            .release(root, base as u8, width, keep, &mut self.latest);
         follow(
             &self.design,
             self.marks.as_mut_slice(),
             root,
-            change,
+            changed,
+            &self.latest,
             agenda,
             threads,
         );

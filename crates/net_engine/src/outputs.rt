@@ -6,10 +6,9 @@ ghost use Rattle.gate_rules.specs.Strong.{looks, keeps_strong};
 ghost use Rattle.sym_link.specs.Roots.{Node, kind_of};
 ghost use Rattle.net_engine.specs.Net.{at_source, output_of, seen, strongly};
 ghost use Rattle.net_engine.specs.Parts.{IsLinked, AreWide, IsShowing, AreShowing, IsGateKind};
-ghost use Rattle.net_engine.specs.Slots.{levels_by};
+ghost use Rattle.net_engine.specs.Outputs.{IsToldByBits};
 
 use crate::design::Design;
-use crate::driver::Driver;
 use crate::store::Store;
 use four_state::{ResKind, Vec4};
 use gate_rules::{eval_gate, eval_strong};
@@ -125,60 +124,100 @@ fn sized_bits(bits: Vec4) -> Vec4
     bits
 }
 
-// The bits that a port is seen as.
-fn bits_at_source<F: Fanout + Drop>(
+// Puts the bits that a port is seen as into its place.
+fn put_bits<F: Fanout + Drop>(
     design: &Design<F>,
     store: &Store,
     source: &Source,
-) -> Option<Vec4>
+    port: &mut Option<Vec4>,
+)
     requires { IsShowing design.now store.now source.now }
-    ensures value { result ≡ option_map seen (at_source design.now store.now source.now) }
-    ensures least { IfSome result (λ bits. 1 ≤ length bits) }
+    ensures value { port.new ≡ option_map seen (at_source design.now store.now source.now) }
+    ensures least { IfSome port.new (λ bits. 1 ≤ length bits) }
 {
     match source {
-        Source::Unused => None,
-        Source::Item(item) => Some(sized_bits(store.bits(design.root(*item)))),
-        Source::Fixed(bits) => Some(sized_bits(*bits)),
+        Source::Unused => *port = None,
+        Source::Item(item) => *port = Some(sized_bits(store.bits(design.root(*item)))),
+        Source::Fixed(bits) => *port = Some(sized_bits(*bits)),
     }
 }
 
-// The bits that the four ports of a gate are seen as.
-fn bits_at_ports<F: Fanout + Drop>(
+// Puts the bits that the four ports of a gate are seen as into their places.
+fn put_all_bits<F: Fanout + Drop>(
     design: &Design<F>,
     store: &Store,
-    ports: &Sources,
-) -> [Option<Vec4>; 4]
-    requires { AreShowing design.now store.now ports.now }
-    ensures value { result ≡ seen_ports (map (at_source design.now store.now) ports.now) }
-    ensures least { All (λ port. IfSome port (λ bits. 1 ≤ length bits)) result }
+    sources: &Sources,
+    ports: &mut [Option<Vec4>; 4],
+)
+    requires { AreShowing design.now store.now sources.now }
+    ensures value { ports.new ≡ seen_ports (map (at_source design.now store.now) sources.now) }
+    ensures least { All (λ port. IfSome port (λ bits. 1 ≤ length bits)) ports.new }
 {
-    let ports = ports.as_array();
-    [
-        bits_at_source(design, store, &ports[0]),
-        bits_at_source(design, store, &ports[1]),
-        bits_at_source(design, store, &ports[2]),
-        bits_at_source(design, store, &ports[3]),
-    ]
+    let sources = sources.as_array();
+    put_bits(design, store, &sources[0], &mut ports[0]);
+    put_bits(design, store, &sources[1], &mut ports[1]);
+    put_bits(design, store, &sources[2], &mut ports[2]);
+    put_bits(design, store, &sources[3], &mut ports[3]);
 }
 
-/// What a gate drives: bits, where those that its ports are seen as tell it, and it is strong.
-pub(crate) fn output<F: Fanout + Drop>(design: &Design<F>, store: &Store, item: u32) -> Driver
+/// Whether the bits that its ports are seen as tell what a gate drives.
+pub(crate) fn is_told_by_bits<F: Fanout + Drop>(
+    design: &Design<F>,
+    store: &Store,
+    item: u32,
+) -> bool
     requires linked { IsLinked design.now }
     requires wide { AreWide design.now store.now }
     requires gate { IsGateKind (kind_of design.now item) }
-    ensures value { (node : Node) → slice_get design.now item ≡ Some node → levels_by result ≡ output_of design.now store.now node }
-    ensures width { (node : Node) → slice_get design.now item ≡ Some node → length (levels_by result) ≡ node.width }
+    ensures { result ≡ true → IsToldByBits design.now store.now (kind_of design.now item) }
+{
+    match design.kind(item) {
+        ItemKind::Functor { gate, drive, ports } => is_by_bits(design, store, gate, *drive, ports),
+        _ => unreachable!(),
+    }
+}
+
+/// The bits that a gate drives, as a variable does, where the bits that its ports are seen as tell it. These are put into
+/// `ports`, so that no call makes an array.
+pub(crate) fn bits_output<F: Fanout + Drop>(
+    design: &Design<F>,
+    store: &Store,
+    item: u32,
+    ports: &mut [Option<Vec4>; 4],
+) -> Vec4
+    requires linked { IsLinked design.now }
+    requires wide { AreWide design.now store.now }
+    requires gate { IsToldByBits design.now store.now (kind_of design.now item) }
+    ensures value { (node : Node) → slice_get design.now item ≡ Some node → strongly result ≡ output_of design.now store.now node }
+    ensures width { (node : Node) → slice_get design.now item ≡ Some node → length result ≡ node.width }
+{
+    match design.kind(item) {
+        ItemKind::Functor {
+            gate,
+            drive: _drive,
+            ports: sources,
+        } => {
+            let width = design.width(item);
+            put_all_bits(design, store, sources, ports);
+            eval_strong(gate, width, ports)
+        }
+        _ => unreachable!(),
+    }
+}
+
+/// The levels that a gate drives.
+pub(crate) fn levels_output<F: Fanout + Drop>(design: &Design<F>, store: &Store, item: u32) -> Vec8
+    requires linked { IsLinked design.now }
+    requires wide { AreWide design.now store.now }
+    requires gate { IsGateKind (kind_of design.now item) }
+    ensures value { (node : Node) → slice_get design.now item ≡ Some node → result ≡ output_of design.now store.now node }
+    ensures width { (node : Node) → slice_get design.now item ≡ Some node → length result ≡ node.width }
 {
     match design.kind(item) {
         ItemKind::Functor { gate, drive, ports } => {
             let width = design.width(item);
-            if is_by_bits(design, store, gate, *drive, ports) {
-                let bits = bits_at_ports(design, store, ports);
-                Driver::Bits(eval_strong(gate, width, &bits))
-            } else {
-                let levels = at_ports(design, store, ports);
-                Driver::Levels(eval_gate(gate, width, *drive, &levels))
-            }
+            let levels = at_ports(design, store, ports);
+            eval_gate(gate, width, *drive, &levels)
         }
         _ => unreachable!(),
     }

@@ -1,16 +1,15 @@
 //! The values of all items.
 
-ghost use Rattle.std.specs.Prelude.{◌≡◌, ℕ, ◌+◌, ◌<◌, ◌≤◌, true, [], length, map, replicate, Option, Some, None, IfSome, slice_get, slice_set, slice_index_or};
+ghost use Rattle.std.specs.Prelude.{◌≡◌, ℕ, ◌+◌, ◌<◌, ◌≤◌, true, [], length, map, replicate, Option, Some, None, slice_get, slice_set, slice_index_or};
 ghost use Rattle.std.specs.List.{enumerate_from};
 ghost use Rattle.four_state.specs.Vector.{overlaid};
 ghost use Rattle.net_engine.specs.Net.{driven_of, forced_of, levels_of, array_of, request_of, seen, strongly, with_parts, with_word, with_request};
 ghost use Rattle.net_engine.specs.Delivery.{forced_after, driven_after};
-ghost use Rattle.net_engine.specs.Slots.{SlotNow, driving, forcing, released, levels_by, IsPlain, IsChanged, IsKept, helds, driven_in, forced_in};
-ghost use Rattle.net_engine.specs.Parts.{IsChange, HasBits, place_by_value};
+ghost use Rattle.net_engine.specs.Slots.{SlotNow, driving, forcing, released, IsPlain, IsChanged, IsKept, helds, driven_in, forced_in};
+ghost use Rattle.net_engine.specs.Parts.{IsChange, HasBits, change_if, place_by_value};
 
-use crate::driver::Driver;
 use crate::slot::Slot;
-use four_state::Vec4;
+use four_state::{Bit, Vec4};
 use std::marker::Model;
 use strengths::{Level, Vec8, drive, seen};
 use value_plane::Plane;
@@ -20,6 +19,17 @@ use value_plane::Plane;
 pub(crate) struct Change {
     pub(crate) old: Vec4,
     pub(crate) new: Vec4,
+}
+
+impl Change {
+    /// A place for a change, before there is one.
+    pub(crate) fn none() -> Change {
+        let none = Vec4::splat(Bit::Unknown, 1);
+        Change {
+            old: none,
+            new: none,
+        }
+    }
 }
 
 /// The words of an array, none for another item. Contracts see the list.
@@ -86,42 +96,45 @@ impl Model for Store {
     ghost invariant = { λ s. IsKept s.slots.items s.plane };
 }
 
-// An item shows `new` in place of `old`: puts it into the plane, and says what changed.
-fn show(plane: &mut Plane, item: u32, old: Vec8, new: Vec8) -> Option<Change>
+// An item shows `new` in place of `old`: puts it into the plane. Whether its levels changed, and then how it is seen.
+fn show(plane: &mut Plane, item: u32, old: Vec8, new: Vec8, change: &mut Change) -> bool
     requires there { item < length plane.old }
     requires width { length new ≡ length (slice_index_or plane.old item []) }
     requires same { length new ≡ length old }
     ensures plane { plane.new ≡ slice_set plane.old item (seen new) }
-    ensures change { IsChange result old new }
-    ensures bits { IfSome result HasBits }
+    ensures change { IsChange (change_if result change.exit.now) old new }
+    ensures bits { result ≡ true → HasBits change.exit.now }
 {
     let bits = seen(new);
     plane.set(item, bits);
     if old == new {
-        return None;
+        return false;
     }
     let _width = old.width();
-    Some(Change {
+    *change = Change {
         old: seen(old),
         new: bits,
-    })
+    };
+    true
 }
 
-// An item that shows its bits, driven strongly, shows others: puts them into the plane, and says what changed.
-fn show_bits(plane: &mut Plane, item: u32, bits: Vec4) -> Option<Change>
+// An item that shows its bits, driven strongly, is to show these: puts them into the plane. Whether they are others, and
+// then how it is seen.
+fn show_bits(plane: &mut Plane, item: u32, bits: Vec4, change: &mut Change) -> bool
     requires there { item < length plane.old }
     requires width { length bits ≡ length (slice_index_or plane.old item []) }
     ensures plane { plane.new ≡ slice_set plane.old item bits }
-    ensures change { IsChange result (strongly (slice_index_or plane.old item [])) (strongly bits) }
-    ensures bits { IfSome result HasBits }
+    ensures change { IsChange (change_if result change.exit.now) (strongly (slice_index_or plane.old item [])) (strongly bits) }
+    ensures bits { result ≡ true → HasBits change.exit.now }
 {
     let old = plane.get(item);
     if old.eeq(bits) {
-        return None;
+        return false;
     }
     plane.set(item, bits);
     let _width = bits.width();
-    Some(Change { old, new: bits })
+    *change = Change { old, new: bits };
+    true
 }
 
 // Whether the plane alone has the value of an item.
@@ -227,6 +240,14 @@ impl Store {
         self.plane.get(item)
     }
 
+    /// How many bits an item has.
+    pub(crate) fn width(&self, item: u32) -> u8
+        requires { 1 ≤ length (driven_of self.now item) }
+        ensures { result ≡ length (driven_of self.now item) }
+    {
+        self.plane.get(item).width()
+    }
+
     /// Whether an item shows the bits that it is seen as, driven as a variable drives them, by what the plane alone tells.
     pub(crate) fn is_strong(&self, item: u32) -> bool
         requires { 1 ≤ length (driven_of self.now item) }
@@ -279,73 +300,80 @@ impl Store {
         }
     }
 
-    /// Drives an item otherwise. What changed, if its levels did.
-    pub(crate) fn drive(&mut self, item: u32, driver: Driver) -> Option<Change>
-        requires there { 1 ≤ length (driven_of self.old item) }
-        requires width { length (levels_by driver) ≡ length (driven_of self.old item) }
-        ensures values { self.new ≡ with_parts item (levels_by driver) (forced_of self.old item) self.old }
-        ensures change { IsChange result (levels_of self.old item) (levels_of self.new item) }
-        ensures bits { IfSome result HasBits }
-    {
-        match driver {
-            Driver::Bits(bits) => self.drive_bits(item, bits),
-            Driver::Levels(levels) => self.drive_levels(item, levels),
-        }
-    }
-
-    // Drives an item with bits. Where the plane alone has its value, two vectors are compared.
-    fn drive_bits(&mut self, item: u32, bits: Vec4) -> Option<Change>
+    /// Drives an item with bits, as a variable drives them. Where the plane alone has its value, two vectors are compared.
+    /// Whether its levels changed; `change` says then how it is seen.
+    pub(crate) fn drive_bits(&mut self, item: u32, bits: Vec4, change: &mut Change) -> bool
         requires there { 1 ≤ length (driven_of self.old item) }
         requires width { length bits ≡ length (driven_of self.old item) }
         ensures values { self.new ≡ with_parts item (strongly bits) (forced_of self.old item) self.old }
-        ensures change { IsChange result (levels_of self.old item) (levels_of self.new item) }
-        ensures bits { IfSome result HasBits }
+        ensures change { IsChange (change_if result change.exit.now) (levels_of self.old item) (levels_of self.new item) }
+        ensures bits { result ≡ true → HasBits change.exit.now }
     {
         if is_plain(self.slots.as_slice(), item) {
-            show_bits(&mut self.plane, item, bits)
+            show_bits(&mut self.plane, item, bits, change)
         } else {
-            self.drive_levels(item, drive(bits, 6, 6))
+            self.drive_strongly(item, bits, change)
         }
     }
 
-    // Drives an item with levels.
-    fn drive_levels(&mut self, item: u32, levels: Vec8) -> Option<Change>
+    // Drives an item with the levels of bits. It stands out of line, so that a change of bits alone pays nothing for it.
+    #[inline(never)]
+    fn drive_strongly(&mut self, item: u32, bits: Vec4, change: &mut Change) -> bool
+        requires there { 1 ≤ length (driven_of self.old item) }
+        requires width { length bits ≡ length (driven_of self.old item) }
+        ensures values { self.new ≡ with_parts item (strongly bits) (forced_of self.old item) self.old }
+        ensures change { IsChange (change_if result change.exit.now) (levels_of self.old item) (levels_of self.new item) }
+        ensures bits { result ≡ true → HasBits change.exit.now }
+    {
+        self.drive_levels(item, drive(bits, 6, 6), change)
+    }
+
+    /// Drives an item with levels. Whether its levels changed; `change` says then how it is seen.
+    pub(crate) fn drive_levels(&mut self, item: u32, levels: Vec8, change: &mut Change) -> bool
         requires there { 1 ≤ length (driven_of self.old item) }
         requires width { length levels ≡ length (driven_of self.old item) }
         ensures values { self.new ≡ with_parts item levels (forced_of self.old item) self.old }
-        ensures change { IsChange result (levels_of self.old item) (levels_of self.new item) }
-        ensures bits { IfSome result HasBits }
+        ensures change { IsChange (change_if result change.exit.now) (levels_of self.old item) (levels_of self.new item) }
+        ensures bits { result ≡ true → HasBits change.exit.now }
     {
         let bits = self.plane.get(item);
         let (old, new) = drive_at(self.slots.as_mut_slice(), item, bits, levels);
-        show(&mut self.plane, item, old, new)
+        show(&mut self.plane, item, old, new, change)
     }
 
-    /// Forces every place of an item, as strongly as a variable drives. What changed, if its levels did.
-    pub(crate) fn force(&mut self, item: u32, value: Vec4) -> Option<Change>
+    /// Forces every place of an item, as strongly as a variable drives. Whether its levels changed; `change` says then how
+    /// it is seen.
+    pub(crate) fn force(&mut self, item: u32, value: Vec4, change: &mut Change) -> bool
         requires there { 1 ≤ length (driven_of self.old item) }
         requires width { length value ≡ length (driven_of self.old item) }
         ensures values { self.new ≡ with_parts item (driven_of self.old item) (map Some (strongly value)) self.old }
-        ensures change { IsChange result (levels_of self.old item) (levels_of self.new item) }
-        ensures bits { IfSome result HasBits }
+        ensures change { IsChange (change_if result change.exit.now) (levels_of self.old item) (levels_of self.new item) }
+        ensures bits { result ≡ true → HasBits change.exit.now }
     {
         let bits = self.plane.get(item);
         let (old, new) = force_at(self.slots.as_mut_slice(), item, bits, drive(value, 6, 6));
-        show(&mut self.plane, item, old, new)
+        show(&mut self.plane, item, old, new, change)
     }
 
-    /// Releases so many places of an item from a base on; with `keep` they are driven as they were forced. What changed,
-    /// if its levels did.
-    pub(crate) fn release(&mut self, item: u32, base: u8, width: u8, keep: bool) -> Option<Change>
+    /// Releases so many places of an item from a base on; with `keep` they are driven as they were forced. Whether its
+    /// levels changed; `change` says then how it is seen.
+    pub(crate) fn release(
+        &mut self,
+        item: u32,
+        base: u8,
+        width: u8,
+        keep: bool,
+        change: &mut Change,
+    ) -> bool
         requires there { 1 ≤ length (driven_of self.old item) }
         ensures values { self.new ≡ with_parts item (driven_after base width keep self.old item)
             (map (forced_after base width) (enumerate_from 0 (forced_of self.old item))) self.old }
-        ensures change { IsChange result (levels_of self.old item) (levels_of self.new item) }
-        ensures bits { IfSome result HasBits }
+        ensures change { IsChange (change_if result change.exit.now) (levels_of self.old item) (levels_of self.new item) }
+        ensures bits { result ≡ true → HasBits change.exit.now }
     {
         let bits = self.plane.get(item);
         let (old, new) = release_at(self.slots.as_mut_slice(), item, bits, base, width, keep);
-        show(&mut self.plane, item, old, new)
+        show(&mut self.plane, item, old, new, change)
     }
 
     /// A word of an array.

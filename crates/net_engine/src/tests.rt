@@ -1,11 +1,12 @@
-ghost use Rattle.std.specs.Prelude.{◌≡◌, ◌<◌, false, length, replicate, IfOk};
+ghost use Rattle.std.specs.Prelude.{◌≡◌, ◌<◌, true, false, length, replicate, IfOk};
 ghost use Rattle.sym_link.specs.Sound.{IsProgram};
-ghost use Rattle.sym_link.specs.Roots.{nodes_of};
-ghost use Rattle.net_engine.specs.Parts.{HasBits};
+ghost use Rattle.sym_link.specs.Roots.{nodes_of, kind_of};
+ghost use Rattle.net_engine.specs.Parts.{HasBits, IsGateKind};
 
-use crate::build::design_of;
+use crate::build::{design_of, store_of};
 use crate::deliver::follow;
 use crate::design::Design;
+use crate::outputs::{bits_output, is_told_by_bits};
 use crate::readers::reader_list;
 use crate::slot::Slot;
 use crate::store::Change;
@@ -16,7 +17,7 @@ use std::alloc::{AllocError, Global};
 use std::process::Abort;
 use std::test::Fail;
 use strengths::{drive, seen};
-use sym_link::{Program, link, read_statements};
+use sym_link::{ItemKind, Program, link, read_statements};
 use time_wheel::Wheel;
 use vvp_lex::statements;
 use vvp_threads::Threads;
@@ -84,7 +85,8 @@ fn forces_and_releases(rt: HostRuntime) -> Result<(), Fail> {
     Ok(())
 }
 
-// Twenty inputs: those of gates, of a resolver, of events with an edge, and of a net delay. The items are numbered from 0.
+// Inputs of gates, of a resolver, of events with an edge, and of a net delay, and two gates that pass constants. The items are
+// numbered from 0.
 #[rattlefmt::skip]
 const DESIGN: &[u8] = b"S_1 .scope module, \"m\" \"m\" 1 1;
 v_0 .var \"v\", 3 0;
@@ -101,6 +103,8 @@ E_4 .event edge, v_0, n_0;
 L_3 .functor NOT 4, v_0;
 L_4 .functor XOR 4, v_0, v_0, v_0, v_0;
 L_5 .functor BUFZ 4, v_1;
+L_6 .part C4<10xz>, 1, 2;
+L_7 .concat [4 4 0 0], v_1, C4<10xz>;
 ";
 
 const EITHER_EVENT: u32 = 10;
@@ -114,7 +118,7 @@ const CHANGES: [(u32, (u128, u128), (u128, u128), [u32; 6], usize); 4] = [
     (1, (0b1111, 0b1111), (0b0001, 0), [4, RUN, 6, 8, 12, 13], 6),
     (1, (0b0001, 0), (0b0000, 0), [4, 6, RUN, 8, 12, 13], 6),
     (1, (0b0001, 0), (0b0011, 0), [4, 6, 8, 12, 13, 0], 5),
-    (2, (0b1111, 0b1111), (0b0000, 0), [4, 6, 9, 14, 0, 0], 4),
+    (2, (0b1111, 0b1111), (0b0000, 0), [4, 6, 9, 14, 16, 0], 5),
 ];
 
 // The program of a small file.
@@ -192,7 +196,8 @@ fn followed(
         &design,
         marks.as_mut_slice(),
         item,
-        Some(change),
+        true,
+        &change,
         &mut agenda,
         &mut threads,
     );
@@ -207,16 +212,65 @@ fn followed(
 #[test]
 fn reaches_inputs_in_order(rt: HostRuntime) -> Result<(), Fail> {
     let program = linked(rt.alloc(), DESIGN)?;
-    assert_eq!(rt; program.items.as_slice().len(), 15);
+    assert_eq!(rt; program.items.as_slice().len(), 17);
     for (item, old, new, numbers, count) in CHANGES {
         let change = Change {
             old: Vec4::from_planes(old.0, old.1, 4),
             new: Vec4::from_planes(new.0, new.1, 4),
         };
-        assert!(rt; item < 15);
+        assert!(rt; item < 17);
         assert_eq!(rt; change.old.width(), change.new.width());
         let found = followed(rt.alloc(), &program, item, change)?;
         assert_eq!(rt; found.as_slice(), &numbers[..count]);
+    }
+    Ok(())
+}
+
+// A gate, and the planes that it drives before anything has happened: a table's x, a part, and a concatenation. The first is
+// told by the bits at its ports, and so are the others, which pass what a constant or the plane alone has. A net delay isn't.
+const TOLD: [(u32, Option<(u128, u128)>); 4] = [
+    (9, Some((0b1111, 0b1111))),
+    (15, Some((0b01, 0b01))),
+    (16, Some((0b1010_1111, 0b0011_1111))),
+    (8, None),
+];
+
+// Whether an item is a gate.
+fn is_gate(design: &Design<ChainFanout>, item: u32) -> bool
+    requires { item < length design.now }
+    ensures { result ≡ true → IsGateKind (kind_of design.now item) }
+{
+    match design.kind(item) {
+        ItemKind::Functor { .. } => true,
+        _ => false,
+    }
+}
+
+// The planes that a gate drives before anything has happened, if the bits at its ports tell it.
+fn told(alloc: Global, program: &Program, item: u32) -> Result<Option<(u128, u128)>, AllocError>
+    requires program { IsProgram program.now }
+    requires item { item < length program.now.items }
+{
+    let design = chained(alloc, program)?;
+    let store = store_of(alloc, program)?;
+    if !is_gate(&design, item) {
+        return Ok(None);
+    }
+    if !is_told_by_bits(&design, &store, item) {
+        return Ok(None);
+    }
+    let mut ports = [None, None, None, None];
+    let bits = bits_output(&design, &store, item, &mut ports);
+    Ok(Some(bits.planes()))
+}
+
+#[test]
+fn passes_strong_bits(rt: HostRuntime) -> Result<(), Fail> {
+    let program = linked(rt.alloc(), DESIGN)?;
+    assert_eq!(rt; program.items.as_slice().len(), 17);
+    for (item, planes) in TOLD {
+        assert!(rt; item < 17);
+        assert!(rt; told(rt.alloc(), &program, item)? == planes);
     }
     Ok(())
 }

@@ -21,5 +21,5 @@ returns-then-ticks-gt0-clause-state g c =
 pub returns-else-ticks-gt0-clause-state : goal.returns-else-ticks-gt0-clause-state
 returns-else-ticks-gt0-clause-state g c =
     let none : c.args.ticks ≡ 0 = omega arith in
-    now-call c.args.self.now c.change.new.self c.self.inside.design c.self.inside.store c.set_request.new.self c.self.inside.marks.items c.args.item c.args.ticks c.args.wanted c.args.request c.args.threads.now c.change.new.threads
-    (g.A.Agenda.schedule c.args.agenda.now) (g.A.Agenda.schedule c.change.new.agenda) c.self.view_is c.requires.fits none c.set_request.ensures c.change.ensures.state
+    now-call c.args.self.now c.change_levels.new.self c.self.inside.design c.self.inside.store c.set_request.new.self c.self.inside.marks.items c.args.item c.args.ticks c.args.wanted c.args.request c.args.threads.now c.change_levels.new.threads
+    (g.A.Agenda.schedule c.args.agenda.now) (g.A.Agenda.schedule c.change_levels.new.agenda) c.self.view_is c.requires.fits none c.set_request.ensures c.change_levels.ensures.state

@@ -16,9 +16,9 @@ invariant_of-self g c =
 
 pub returns-in-Some-clause-state : goal.returns-in-Some-clause-state
 returns-in-Some-clause-state g c =
-    due-call c.args.self.now c.change.new.self c.self.inside.design c.self.inside.store c.set_request.new.self c.self.inside.marks.items c.args.item c.args.serial c.request-request.result c.in-Some.kept c.args.threads.now c.change.new.threads
-    (g.A.Agenda.schedule c.args.agenda.now) (g.A.Agenda.schedule c.change.new.agenda) c.self.view_is c.requires.fits c.request-request.ensures (ap (λ (r : Request). r.serial) (sym c.request.view_is) ∙ c.if-request-serial.false)
-    (ap (λ (r : Request). r.kept) (sym c.request.view_is) ∙ c.in-Some.is) c.set_request.ensures c.change.ensures.state
+    due-call c.args.self.now c.change_levels.new.self c.self.inside.design c.self.inside.store c.set_request.new.self c.self.inside.marks.items c.args.item c.args.serial c.request-request.result c.in-Some.kept c.args.threads.now c.change_levels.new.threads
+    (g.A.Agenda.schedule c.args.agenda.now) (g.A.Agenda.schedule c.change_levels.new.agenda) c.self.view_is c.requires.fits c.request-request.ensures (ap (λ (r : Request). r.serial) (sym c.request.view_is) ∙ c.if-request-serial.false)
+    (ap (λ (r : Request). r.kept) (sym c.request.view_is) ∙ c.in-Some.is) c.set_request.ensures c.change_levels.ensures.state
 
 pub returns-in_default-clause-state : goal.returns-in_default-clause-state
 returns-in_default-clause-state g c =

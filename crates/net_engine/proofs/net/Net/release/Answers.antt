@@ -4,7 +4,7 @@ use Rattle.sym_link.specs.Roots.{kind_of}
 use Rattle.net_engine.specs.Net.{driven_of, forced_of, words_of}
 use Rattle.net_engine.specs.Delivery.{driven_after, forced_after}
 use Rattle.net_engine.specs.Kept.{NetNow}
-use Rattle.net_engine.specs.Parts.{HasLevels}
+use Rattle.net_engine.specs.Parts.{HasLevels, change_if}
 use Rattle.net_engine.proofs.RootLemmas.{levels-driven}
 use Rattle.net_engine.proofs.CallLemmas.{call-net, release-call, levels-most}
 use Rattle.net_engine.proofs.SoundLemmas.{driven-there, word-width, released-length, released-driven}
@@ -18,8 +18,8 @@ overflow_cast-base g c =
     let most = levels-most c.self.inside.design c.self.inside.store c.args.item c.self.invariant.linked c.self.invariant.wide levels in
     omega (arith, within, width, most)
 
-pub release-change-requires : goal.release-change-requires
-release-change-requires g c = record {
+pub release-changed-requires : goal.release-changed-requires
+release-changed-requires g c = record {
   there = subst (λ (r : ℕ). 1 ≤ length (driven_of c.self.inside.store r)) (sym c.root-root.ensures)
       (levels-driven c.self.inside.design c.self.inside.store c.args.item c.self.invariant.linked c.self.invariant.wide (subst (λ (n : NetNow). HasLevels (kind_of n.nodes c.args.item)) (sym c.self.view_is) c.requires.item));
 }
@@ -35,12 +35,12 @@ invariant_of-self g c =
     let root = c.root-root.result in
     let long = c.self.invariant.wide.forced root in
     let width = released-driven c.args.base c.args.width c.args.keep c.self.inside.store root long in
-    call-net c.self.inside.design c.self.inside.store c.release-change.new.self c.self.inside.marks.items c.as_mut_slice.result.now c.follow.new.marks c.self.inside.marks.len root (driven_after c.args.base c.args.width c.args.keep c.self.inside.store root)
+    call-net c.self.inside.design c.self.inside.store c.release-changed.new.self c.self.inside.marks.items c.as_mut_slice.result.now c.follow.new.marks c.self.inside.marks.len root (driven_after c.args.base c.args.width c.args.keep c.self.inside.store root)
     (map (forced_after c.args.base c.args.width) (enumerate_from 0 (forced_of c.self.inside.store root)))
-    c.self.invariant c.self.inside.marks.ok.0 c.as_mut_slice.ensures.value c.follow.auto.marks c.release-change.ensures.values width
+    c.self.invariant c.self.inside.marks.ok.0 c.as_mut_slice.ensures.value c.follow.auto.marks c.release-changed.ensures.values width
     (released-length c.args.base c.args.width (forced_of c.self.inside.store root) (driven_after c.args.base c.args.width c.args.keep c.self.inside.store root) (long ∙ sym width))
 
 pub returns-clause-state : goal.returns-clause-state
 returns-clause-state g c =
-    release-call c.args.self.now c.self.inside.design c.self.inside.store c.release-change.new.self c.self.inside.marks.items c.as_mut_slice.result.now c.follow.new.marks c.self.inside.marks.len c.args.item c.root-root.result c.args.base c.args.width c.args.keep c.args.threads.now c.follow.new.threads
-    (g.A.Agenda.schedule c.args.agenda.now) (g.A.Agenda.schedule c.follow.new.agenda) c.release-change.result c.self.view_is c.requires.fits c.self.inside.marks.ok.0 c.as_mut_slice.ensures.value c.follow.auto.marks c.root-root.ensures c.release-change.ensures.values c.release-change.ensures.change c.follow.ensures
+    release-call c.args.self.now c.self.inside.design c.self.inside.store c.release-changed.new.self c.self.inside.marks.items c.as_mut_slice.result.now c.follow.new.marks c.self.inside.marks.len c.args.item c.root-root.result c.args.base c.args.width c.args.keep c.args.threads.now c.follow.new.threads
+    (g.A.Agenda.schedule c.args.agenda.now) (g.A.Agenda.schedule c.follow.new.agenda) (change_if c.release-changed.result c.release-changed.new.change) c.self.view_is c.requires.fits c.self.inside.marks.ok.0 c.as_mut_slice.ensures.value c.follow.auto.marks c.root-root.ensures c.release-changed.ensures.values c.release-changed.ensures.change c.follow.ensures

@@ -2,6 +2,7 @@ use Rattle.std.proofs.Common.{[], get_or, refl, ap, sym, ◌∙◌}
 use Rattle.std.specs.List.{slice_get}
 use Rattle.net_engine.specs.Net.{strongly}
 use Rattle.net_engine.specs.Slots.{driving}
+use Rattle.net_engine.specs.Parts.{change_if}
 use Rattle.net_engine.proofs.StepLemmas.{slot-there, place-there, stepped-kept, stepped-change, drive-values}
 use Rattle.net_engine.proofs.PlainLemmas.{place-width, plain-stepped, plain-plane}
 use Rattle.net_engine.proofs.store.Store.drive_bits.Goals as goal
@@ -28,6 +29,6 @@ returns-then-is_plain-clause-values c = drive-values c.self.inside.slots.items c
     c.as_slice.ensures.value (c.is_plain.ensures c.if-is_plain.true)) refl (plain-plane c.self.inside.plane c.show_bits.new.plane c.args.item c.args.bits c.show_bits.ensures.plane) c.self.view_is
 
 pub returns-then-is_plain-clause-change : goal.returns-then-is_plain-clause-change
-returns-then-is_plain-clause-change c = stepped-change (driving (strongly c.args.bits)) c.show_bits.result c.self.inside.slots.items c.self.inside.slots.items c.self.inside.slots.items c.self.inside.plane c.show_bits.new.plane c.self.inside.words.items c.self.inside.requests.items c.args.self.now c.args.item (strongly (get_or c.self.inside.plane c.args.item [])) (strongly c.args.bits)
+returns-then-is_plain-clause-change c = stepped-change (driving (strongly c.args.bits)) (change_if c.show_bits.result c.show_bits.new.change) c.self.inside.slots.items c.self.inside.slots.items c.self.inside.slots.items c.self.inside.plane c.show_bits.new.plane c.self.inside.words.items c.self.inside.requests.items c.args.self.now c.args.item (strongly (get_or c.self.inside.plane c.args.item [])) (strongly c.args.bits)
     (plain-stepped c.self.inside.slots.items c.as_slice.result.now c.self.inside.plane c.self.inside.words.items c.self.inside.requests.items c.args.self.now c.args.item c.args.bits c.self.invariant c.self.view_is c.requires.there c.requires.width
     c.as_slice.ensures.value (c.is_plain.ensures c.if-is_plain.true)) refl (plain-plane c.self.inside.plane c.show_bits.new.plane c.args.item c.args.bits c.show_bits.ensures.plane) c.self.view_is c.show_bits.ensures.change

@@ -1,6 +1,7 @@
 use Rattle.std.proofs.Common.{length, sym, ap, ◌∙◌}
 use Rattle.std.specs.List.{slice_get}
 use Rattle.net_engine.specs.Slots.{driving, helds}
+use Rattle.net_engine.specs.Parts.{change_if}
 use Rattle.net_engine.proofs.StepLemmas.{found, place-there, refilled, stepped, stepped-same, stepped-width, stepped-kept, stepped-change, drive-keeps, drive-values}
 use Rattle.net_engine.proofs.store.Store.drive_levels.Goals as goal
 
@@ -43,5 +44,5 @@ pub returns-clause-change : goal.returns-clause-change
 returns-clause-change c =
     let s = stepped (driving c.args.levels) c.self.inside.slots.items c.as_mut_slice.result.now c.drive_at-old.new.slots c.self.inside.plane c.self.inside.words.items c.self.inside.requests.items c.args.self.now c.args.item c.get-bits.result c.drive_at-old.result.0 c.drive_at-old.result.1 c.self.invariant c.self.view_is c.requires.there c.as_mut_slice.ensures.value c.get-bits.ensures
     (drive-keeps (helds c.self.inside.slots.items c.self.inside.plane) c.self.inside.words.items c.self.inside.requests.items c.args.self.now c.args.item c.args.levels c.self.view_is c.requires.width) c.drive_at-old.ensures in
-    stepped-change (driving c.args.levels) c.show.result c.self.inside.slots.items c.drive_at-old.new.slots _ c.self.inside.plane c.show.new.plane c.self.inside.words.items c.self.inside.requests.items c.args.self.now c.args.item c.drive_at-old.result.0 c.drive_at-old.result.1 s
+    stepped-change (driving c.args.levels) (change_if c.show.result c.show.new.change) c.self.inside.slots.items c.drive_at-old.new.slots _ c.self.inside.plane c.show.new.plane c.self.inside.words.items c.self.inside.requests.items c.args.self.now c.args.item c.drive_at-old.result.0 c.drive_at-old.result.1 s
     (refilled c.self.inside.slots.len c.self.inside.slots.items c.drive_at-old.new.slots c.self.inside.slots.ok.0 s.count) c.show.ensures.plane c.self.view_is c.show.ensures.change

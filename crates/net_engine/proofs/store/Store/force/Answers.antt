@@ -2,6 +2,7 @@ use Rattle.std.proofs.Common.{length, sym, ap, ◌∙◌}
 use Rattle.std.specs.List.{slice_get}
 use Rattle.std.proofs.lemmas.List.{length-map}
 use Rattle.net_engine.specs.Slots.{forcing, helds}
+use Rattle.net_engine.specs.Parts.{change_if}
 use Rattle.net_engine.proofs.StepLemmas.{found, place-there, refilled, stepped, stepped-same, stepped-width, stepped-kept, stepped-change, force-keeps, force-values}
 use Rattle.net_engine.proofs.store.Store.force.Goals as goal
 
@@ -44,5 +45,5 @@ pub returns-clause-change : goal.returns-clause-change
 returns-clause-change c =
     let s = stepped (forcing c.drive.result) c.self.inside.slots.items c.as_mut_slice.result.now c.force_at-old.new.slots c.self.inside.plane c.self.inside.words.items c.self.inside.requests.items c.args.self.now c.args.item c.get-bits.result c.force_at-old.result.0 c.force_at-old.result.1 c.self.invariant c.self.view_is c.requires.there c.as_mut_slice.ensures.value c.get-bits.ensures
     (force-keeps (helds c.self.inside.slots.items c.self.inside.plane) c.self.inside.words.items c.self.inside.requests.items c.args.self.now c.args.item c.drive.result c.self.view_is (ap length c.drive.ensures ∙ length-map c.args.value _ ∙ c.requires.width)) c.force_at-old.ensures in
-    stepped-change (forcing c.drive.result) c.show.result c.self.inside.slots.items c.force_at-old.new.slots _ c.self.inside.plane c.show.new.plane c.self.inside.words.items c.self.inside.requests.items c.args.self.now c.args.item c.force_at-old.result.0 c.force_at-old.result.1 s
+    stepped-change (forcing c.drive.result) (change_if c.show.result c.show.new.change) c.self.inside.slots.items c.force_at-old.new.slots _ c.self.inside.plane c.show.new.plane c.self.inside.words.items c.self.inside.requests.items c.args.self.now c.args.item c.force_at-old.result.0 c.force_at-old.result.1 s
     (refilled c.self.inside.slots.len c.self.inside.slots.items c.force_at-old.new.slots c.self.inside.slots.ok.0 s.count) c.show.ensures.plane c.self.view_is c.show.ensures.change

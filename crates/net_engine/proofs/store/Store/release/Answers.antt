@@ -1,6 +1,7 @@
 use Rattle.std.proofs.Common.{ap, ◌∙◌, arith}
 use Rattle.std.specs.List.{slice_get}
 use Rattle.net_engine.specs.Slots.{released}
+use Rattle.net_engine.specs.Parts.{change_if}
 use Rattle.net_engine.proofs.StepLemmas.{found, place-there, refilled, stepped, stepped-same, stepped-width, stepped-kept, stepped-change, release-keeps, release-values}
 use Rattle.net_engine.proofs.store.Store.release.Goals as goal
 
@@ -43,5 +44,5 @@ pub returns-clause-change : goal.returns-clause-change
 returns-clause-change c =
     let s = stepped (released c.args.base c.args.width c.args.keep) c.self.inside.slots.items c.as_mut_slice.result.now c.release_at-old.new.slots c.self.inside.plane c.self.inside.words.items c.self.inside.requests.items c.args.self.now c.args.item c.get-bits.result c.release_at-old.result.0 c.release_at-old.result.1 c.self.invariant c.self.view_is c.requires.there c.as_mut_slice.ensures.value c.get-bits.ensures
     (λ held at sized. release-keeps c.args.base c.args.width c.args.keep held sized) c.release_at-old.ensures in
-    stepped-change (released c.args.base c.args.width c.args.keep) c.show.result c.self.inside.slots.items c.release_at-old.new.slots _ c.self.inside.plane c.show.new.plane c.self.inside.words.items c.self.inside.requests.items c.args.self.now c.args.item c.release_at-old.result.0 c.release_at-old.result.1 s
+    stepped-change (released c.args.base c.args.width c.args.keep) (change_if c.show.result c.show.new.change) c.self.inside.slots.items c.release_at-old.new.slots _ c.self.inside.plane c.show.new.plane c.self.inside.words.items c.self.inside.requests.items c.args.self.now c.args.item c.release_at-old.result.0 c.release_at-old.result.1 s
     (refilled c.self.inside.slots.len c.self.inside.slots.items c.release_at-old.new.slots c.self.inside.slots.ok.0 s.count) c.show.ensures.plane c.self.view_is c.show.ensures.change

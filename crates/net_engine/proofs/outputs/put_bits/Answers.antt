@@ -3,7 +3,7 @@ use Rattle.std.specs.Option.{option_map}
 use Rattle.sym_link.specs.declared.program.Source.{Source}
 use Rattle.net_engine.specs.Net.{at_source, seen}
 use Rattle.net_engine.proofs.StrongLemmas.{seen-driven}
-use Rattle.net_engine.proofs.outputs.bits_at_source.Goals as goal
+use Rattle.net_engine.proofs.outputs.put_bits.Goals as goal
 
 pub returns-in-Fixed-clause-value : goal.returns-in-Fixed-clause-value
 returns-in-Fixed-clause-value g c =
