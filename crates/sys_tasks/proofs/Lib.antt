@@ -3,6 +3,7 @@ mod CallLemmas
 mod LineLemmas
 mod SameLemmas
 pub mod BuildLemmas
+pub mod PathLemmas
 mod StartLemmas
 mod PhaseLemmas
 pub mod WritingLemmas

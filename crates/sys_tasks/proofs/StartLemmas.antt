@@ -1,17 +1,17 @@
 -- The tasks before a run.
 use Rattle.std.proofs.Common.{◌≡◌, ℕ, true, List, [], map, refl, sym, ap, ◌∙◌, subst, arith}
-use Rattle.std.specs.Prelude.{None, ℤ, nat_lt}
-use Rattle.std.specs.List.{AllPass, list_all}
+use Rattle.std.specs.Prelude.{None, Some, ℤ}
+use Rattle.std.specs.List.{list_all}
 use Rattle.std.specs.Option.{option_map_or}
 use Rattle.sym_link.specs.declared.program.Item.{Item}
 use Rattle.sym_link.specs.declared.program.Program.{Program}
 use Rattle.sym_link.specs.declared.program.ScopeRow.{ScopeRow}
 use Rattle.sym_link.specs.Sound.{IsProgram}
-use Rattle.text_format.specs.declared.shown.Place.{Place}
+use Rattle.sys_tasks.specs.declared.place.Here.{Here}
 use Rattle.sys_tasks.specs.declared.design.Entry.{Entry}
 use Rattle.sys_tasks.specs.declared.state.TaskState.{TaskState}
 use Rattle.sys_tasks.specs.Design.{design_of, entry_of}
-use Rattle.sys_tasks.specs.Sound.{AreChosen, CanDump, HasPlaces, IsSound, MayWrite, fits_call}
+use Rattle.sys_tasks.specs.Sound.{AreChosen, CanDump, HasScales, IsSound, MayWrite, fits_call}
 use Rattle.sys_tasks.specs.Tasks.{TasksNow, first_state, first_tasks}
 use Rattle.sys_tasks.specs.Writer.{state_with}
 use Rattle.sys_tasks.proofs.DumpLemmas.{program-dumps, program-scales}
@@ -32,23 +32,23 @@ first-writing : (entries : List Entry) → MayWrite entries first_state None
 unfolding first_state
 first-writing entries = omega arith
 
-pub start-scales : (program : Program) (scopes : List ScopeRow) → IsProgram program → scopes ≡ program.scopes → AllPass (λ (row : ScopeRow). nat_lt 0 row.scale) scopes
-start-scales program scopes h is =
-    let P : List ScopeRow → Type 0 = λ xs. AllPass (λ (row : ScopeRow). nat_lt 0 row.scale) xs in
-    subst P (sym is) (program-scales program h)
+start-scales : (program : Program) (scopes : List ScopeRow) → IsProgram program → scopes ≡ program.scopes → HasScales scopes
+start-scales program scopes h is = subst HasScales (sym is) (program-scales program h)
 
-pub start-sound : (program : Program) (named : List Item) (entries : List Entry) (listed copied spread : List ScopeRow) (places : List Place) (state : TaskState) (precision : ℤ) → precision ≡ program.precision → IsProgram program
-    → named ≡ program.items → entries ≡ map entry_of named → listed ≡ program.scopes → copied ≡ listed → spread ≡ program.scopes → HasPlaces spread places → state ≡ first_state → IsSound entries copied precision places state None
-start-sound program named entries listed copied spread places state precision power sound n e l c s h f =
-    let same : copied ≡ spread = c ∙ l ∙ sym s in
-    let P : List ScopeRow → Type 0 = λ x. HasPlaces x places in
+nowhere-there : (here : Here) (scope : ℕ) → here.scope ≡ None → here.scope ≡ Some scope → ⊥
+nowhere-there here scope none some = cc
+
+pub start-sound : (program : Program) (named : List Item) (entries : List Entry) (listed copied : List ScopeRow) (here : Here) (state : TaskState) (precision : ℤ) → precision ≡ program.precision → IsProgram program
+    → named ≡ program.items → entries ≡ map entry_of named → listed ≡ program.scopes → copied ≡ listed → here.scope ≡ None → state ≡ first_state → IsSound entries copied precision here state None
+start-sound program named entries listed copied here state precision power sound n e l c h f =
     let Q : List Entry → Type 0 = λ x. CanDump x program.scopes program.precision in
     let R : List ScopeRow → Type 0 = λ x. CanDump entries x program.precision in
     let Z : ℤ → Type 0 = λ x. CanDump entries copied x in
     let S : TaskState → Type 0 = λ x. AreChosen entries x.chosen in
     let W : TaskState → Type 0 = λ x. MayWrite entries x None in
     record {
-      places = subst P (sym same) h;
+      here = record { at = λ scope is. absurd (nowhere-there here scope h is) };
+      scales = start-scales program copied sound (c ∙ l);
       can_dump = subst Z (sym power) (subst R (sym (c ∙ l)) (subst Q (sym (e ∙ ap (map entry_of) n)) (program-dumps program sound)));
       strobes = ap (λ (x : TaskState). list_all (fits_call entries copied) x.strobes) f ∙ first-strobes entries copied;
       monitor = ap (λ (x : TaskState). option_map_or (fits_call entries copied) x.monitor true) f ∙ first-monitor entries copied;

@@ -1,10 +1,10 @@
 -- What holds of the tasks between calls.
 use Rattle.std.specs.Prelude.{◌≡◌, ℕ, ◌<◌, ◌≤◌, ◌≤ℤ◌, ℤ, pos, negsuc, IsTrue, Bool, true, nat_lt, ◌&&◌, Option, Some, None, List, length, map, slice_get}
-use Rattle.std.specs.List.{list_all}
+use Rattle.std.specs.List.{AllPass, list_all}
 use Rattle.std.specs.Option.{option_map_or}
 use Rattle.four_state.specs.declared.bits.Bit.{Bit}
 use Rattle.sym_link.specs.declared.program.ScopeRow.{ScopeRow}
-use Rattle.text_format.specs.declared.shown.Place.{Place}
+use Rattle.sys_tasks.specs.declared.place.Here.{Here}
 use Rattle.vcd_write.specs.Header.{AreNested, size}
 use Rattle.sys_tasks.specs.declared.design.Entry.{Entry}
 use Rattle.sys_tasks.specs.declared.state.Call.{Call}
@@ -15,11 +15,13 @@ use Rattle.sys_tasks.specs.Tasks.{called_args}
 use Rattle.sys_tasks.specs.Design.{is_dumpable_kind, place_of, root_in, root_of, width_of}
 use Rattle.sys_tasks.specs.Dumped.{dump_item, dump_scope, kind_of}
 
--- the place of each scope, in file order, with a scale of at least one tick
-pub record HasPlaces (scopes : List ScopeRow) (places : List Place) : Type 0 where
-  pub all : length places ≡ length scopes
-  pub each : (scope : ℕ) → scope < length scopes → slice_get places scope ≡ Some (place_of scopes scope)
-  pub scales : (scope : ℕ) → scope < length scopes → 1 ≤ (place_of scopes scope).scale
+-- the place is that of the scope, where there is one
+pub record IsHere (scopes : List ScopeRow) (here : Here) : Type 0 where
+  pub at : (scope : ℕ) → here.scope ≡ Some scope → here.place ≡ place_of scopes scope
+
+-- the scale of each scope is at least one tick
+abbrev pub HasScales : List ScopeRow → Type 0
+HasScales scopes = AllPass (λ (row : ScopeRow). nat_lt 0 row.scale) scopes
 
 -- An item that may be dumped stands in a scope. Its range is as wide as the value that it has, its own or that of its root.
 pub record IsDumpable (entries : List Entry) (scopes : List ScopeRow) (item : ℕ) (e : Entry) : Type 0 where
@@ -58,8 +60,9 @@ MayWrite entries state None = state.dumping < 2
 MayWrite entries state (Some w) = (state.dumping ≡ 2) × IsWriting entries state.chosen w.roots.items w.dump w.values
 
 -- what the tasks keep of a program
-pub record IsSound (entries : List Entry) (scopes : List ScopeRow) (precision : ℤ) (kept : List Place) (state : TaskState) (writer : Option Writer) : Type 0 where
-  pub places : HasPlaces scopes kept
+pub record IsSound (entries : List Entry) (scopes : List ScopeRow) (precision : ℤ) (last : Here) (state : TaskState) (writer : Option Writer) : Type 0 where
+  pub here : IsHere scopes last
+  pub scales : HasScales scopes
   pub can_dump : CanDump entries scopes precision
   pub strobes : list_all (fits_call entries scopes) state.strobes ≡ true
   pub monitor : option_map_or (fits_call entries scopes) state.monitor true ≡ true

@@ -9,7 +9,7 @@ ghost use Rattle.text_format.specs.Steps.{shown_by};
 ghost use Rattle.sys_tasks.specs.Arguments.{Sight, argument, argument_value, arguments, is_signed, scaled, short_time_value, sim_time_value, time_value, value_in, word_in};
 ghost use Rattle.sys_tasks.specs.Conditions.{Answers, holds_value, is_array, is_shown, is_text, is_value};
 ghost use Rattle.sys_tasks.specs.Kept.{items_of};
-ghost use Rattle.sys_tasks.specs.Design.{signed_of, width_of};
+ghost use Rattle.sys_tasks.specs.Design.{place_with, signed_of, width_of};
 ghost use Rattle.sys_tasks.specs.Dumped.{kind_of};
 
 use crate::design::Entry;
@@ -158,25 +158,25 @@ fn part_value(value: Vec4, base: u64, width: u8) -> Vec4
     }
 }
 
-/// The value of an argument that isn't a text.
+/// The value of an argument that isn't a text. Of the place it takes the scale alone, in ticks.
 pub(crate) fn argument_value<V: Values>(
     arg: &Arg<u32>,
     entries: &[Entry],
-    place: &Place,
+    scale: u64,
     kept: Kept<'_>,
     now: u64,
     values: &V,
 ) -> Vec4
     requires answers { Answers entries.now (V.words_of values.now) }
     requires fits { IsTrue (is_value entries.now (items_of kept) arg.now) }
-    requires scale { 1 ≤ place.now.scale }
-    ensures { result ≡ argument_value entries.now (record { words = V.words_of values.now; now = now; place = place.now; kept = items_of kept.entry }) arg.now }
+    requires scale { 1 ≤ scale }
+    ensures { result ≡ argument_value entries.now (record { words = V.words_of values.now; now = now; place = place_with [] scale; kept = items_of kept.entry }) arg.now }
 {
     match arg {
         Arg::Based { value, .. } => *value,
         Arg::Symbol(item) => item_value(entries, *item, values),
-        Arg::Time => time_value(place.scale, now),
-        Arg::ShortTime => short_time_value(place.scale, now),
+        Arg::Time => time_value(scale, now),
+        Arg::ShortTime => short_time_value(scale, now),
         Arg::SimTime => sim_time_value(now),
         Arg::Stack { place, .. } => item_at(kept, *place),
         Arg::Word { array, index } => word_value(entries, *array, *index, values),
@@ -227,7 +227,7 @@ impl<V: Values> Arguments for CallArgs<'_, V> {
                     value: argument_value(
                         arg,
                         self.entries,
-                        self.place,
+                        self.place.scale,
                         self.kept,
                         self.now,
                         self.values,

@@ -9,6 +9,7 @@ mod design;
 mod header;
 mod names;
 mod phase;
+mod place;
 mod printing;
 mod start;
 mod state;

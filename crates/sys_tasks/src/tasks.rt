@@ -1,17 +1,18 @@
 //! The tasks of a run.
 
 ghost use Rattle.std.specs.Prelude.{◌≡◌, ℕ, List, ◌≤◌, ◌<◌, ◌++◌, ◌∷◌, [], length, true, Some, IsTrue, IfOk, OnErr, OnOk, option_map};
+ghost use Rattle.std.specs.List.{list_all};
 ghost use Rattle.four_state.specs.declared.bits.Bit.{Bit};
 ghost use Rattle.sym_link.specs.Sound.{IsProgram};
-ghost use Rattle.sys_tasks.specs.Design.{design_of};
+ghost use Rattle.sys_tasks.specs.Design.{design_of, place_of, place_with};
 ghost use Rattle.sys_tasks.specs.Arguments.{Sight, function_value, popped};
 ghost use Rattle.sys_tasks.specs.Kept.{items_of};
 ghost use Rattle.sys_tasks.specs.Sound.{fits_call};
 ghost use Rattle.sys_tasks.specs.declared.state.Call.{Call};
-ghost use Rattle.sys_tasks.specs.Conditions.{Answers, HasWidths, HoldsValues, IsBetween, function_takes, is_function_call, is_task_call, takes_by};
+ghost use Rattle.sys_tasks.specs.Conditions.{Answers, HasWidths, HoldsValues, IsBetween, function_takes, is_function_call, is_shown, is_task_call, takes_by};
 ghost use Rattle.sys_tasks.specs.Dumped.{dumped_values};
 ghost use Rattle.sys_tasks.specs.Phase.{IsPartOf, dump_name, dumped, monitored, read_only, strobed, with_header, with_phase};
-ghost use Rattle.sys_tasks.specs.Tasks.{answered, called, called_args, called_pops, choosing, does, first_state, first_tasks, named, requesting, said_by, said_of, with_state};
+ghost use Rattle.sys_tasks.specs.Tasks.{answered, call_line, call_text, called, called_args, called_pops, choosing, does, first_state, first_tasks, named, printed, requesting, said_by, said_of, with_state};
 
 use crate::arguments::{
     Kept, argument_value, item_at, short_time_value, sim_time_value, time_value,
@@ -20,9 +21,10 @@ use crate::chosen::chosen_with;
 use crate::design::Entry;
 use crate::header::open;
 use crate::names::{Function, Said, Task, function_of, task_of};
-use crate::phase::{append_kept, append_strobes, place_at, same_values, watch};
+use crate::phase::{append_kept, append_strobes, same_values, watch};
+use crate::place::{Here, nowhere, scale_of, stand_in};
 use crate::printing::{append_line, append_text, kept_of};
-use crate::start::{copied_scopes, entries_of, places_of};
+use crate::start::{copied_scopes, entries_of};
 use crate::state::{Call, Calls, ItemList, Sections, TaskState, VecList};
 use crate::writer::{Writer, append_phase};
 use four_state::{Bit, Values, Vec4};
@@ -30,7 +32,6 @@ use std::alloc::{AllocError, Global};
 use std::marker::Model;
 use std::mem::swap;
 use sym_link::{Program, Scopes};
-use text_format::Place;
 use value_plane::Plane;
 use vcd_write::Section;
 use vec_arith::clog2;
@@ -44,8 +45,8 @@ pub struct Tasks {
     entries: Vec<Entry>,
     scopes: Scopes,
     precision: i8,
-    // The place of each scope.
-    places: Vec<Place>,
+    // The place at which a task printed last.
+    here: Here,
     // All but the values written last, which `writer` has.
     state: TaskState,
     // What writes the dump, from its header on.
@@ -70,7 +71,7 @@ impl Model for Tasks {
       dump = t.dump.items;
     } };
 
-    ghost invariant = { λ t. IsSound t.entries.items t.scopes t.precision t.places.items t.state t.writer };
+    ghost invariant = { λ t. IsSound t.entries.items t.scopes t.precision t.here t.state t.writer };
 }
 
 impl Tasks {
@@ -85,7 +86,7 @@ impl Tasks {
             entries: entries_of(alloc, program.items.as_slice())?,
             scopes: copied_scopes(alloc, program.scopes.as_slice())?,
             precision: program.precision,
-            places: places_of(alloc, program.scopes.as_slice())?,
+            here: nowhere(alloc),
             state: first_state(alloc)?,
             writer: None,
             watched: VecList::new(alloc),
@@ -223,24 +224,8 @@ impl Tasks {
         ensures err { OnErr result (self.new ≡ self.old) }
     {
         match task {
-            Task::Display => append_line(
-                args,
-                self.entries.as_slice(),
-                place_at(self.places.as_slice(), scope),
-                kept,
-                now,
-                values,
-                &mut self.out,
-            ),
-            Task::Write => append_text(
-                args,
-                self.entries.as_slice(),
-                place_at(self.places.as_slice(), scope),
-                kept,
-                now,
-                values,
-                &mut self.out,
-            ),
+            Task::Display => self.display(args, scope, kept, now, values),
+            Task::Write => self.write(args, scope, kept, now, values),
             Task::Strobe => self.strobe(op, scope, kept),
             Task::Monitor => self.monitor(op, scope, kept),
             Task::MonitorOff => {
@@ -259,6 +244,60 @@ impl Tasks {
             Task::DumpOn => self.request(Section::On),
             Task::DumpAll => self.request(Section::All),
         }
+    }
+
+    // Prints a line.
+    fn display<V: Values>(
+        &mut self,
+        args: &[Arg<u32>],
+        scope: u32,
+        kept: Kept<'_>,
+        now: u64,
+        values: &V,
+    ) -> Result<(), AllocError>
+        requires answers { Answers self.old.design.entries (V.words_of values.now) }
+        requires scope { scope < length self.old.design.scopes }
+        requires fits { IsTrue (list_all (is_shown self.old.design.entries (items_of kept)) args.now) }
+        ensures ok { OnOk result (self.new ≡ printed (call_line self.old.design.entries (record { words = V.words_of values.now; now = now; place = place_of self.old.design.scopes scope; kept = items_of kept.entry }) args.now) self.old) }
+        ensures err { OnErr result (self.new ≡ self.old) }
+    {
+        stand_in(&mut self.here, self.alloc, self.scopes.as_slice(), scope)?;
+        append_line(
+            args,
+            self.entries.as_slice(),
+            &self.here.place,
+            kept,
+            now,
+            values,
+            &mut self.out,
+        )
+    }
+
+    // Prints a text.
+    fn write<V: Values>(
+        &mut self,
+        args: &[Arg<u32>],
+        scope: u32,
+        kept: Kept<'_>,
+        now: u64,
+        values: &V,
+    ) -> Result<(), AllocError>
+        requires answers { Answers self.old.design.entries (V.words_of values.now) }
+        requires scope { scope < length self.old.design.scopes }
+        requires fits { IsTrue (list_all (is_shown self.old.design.entries (items_of kept)) args.now) }
+        ensures ok { OnOk result (self.new ≡ printed (call_text self.old.design.entries (record { words = V.words_of values.now; now = now; place = place_of self.old.design.scopes scope; kept = items_of kept.entry }) args.now) self.old) }
+        ensures err { OnErr result (self.new ≡ self.old) }
+    {
+        stand_in(&mut self.here, self.alloc, self.scopes.as_slice(), scope)?;
+        append_text(
+            args,
+            self.entries.as_slice(),
+            &self.here.place,
+            kept,
+            now,
+            values,
+            &mut self.out,
+        )
     }
 
     // Keeps a call of `$strobe` for the next phase.
@@ -382,10 +421,11 @@ impl Tasks {
         ensures part { OnErr result (IsBetween self.old.out (strobed now (V.words_of values.now) self.old).out self.new.out) }
     {
         append_strobes(
+            self.alloc,
             self.state.strobes.as_slice(),
             self.entries.as_slice(),
             self.scopes.as_slice(),
-            self.places.as_slice(),
+            &mut self.here,
             now,
             values,
             &mut self.out,
@@ -411,7 +451,6 @@ impl Tasks {
             call,
             self.entries.as_slice(),
             self.scopes.as_slice(),
-            self.places.as_slice(),
             now,
             values,
             &mut self.watched,
@@ -422,10 +461,11 @@ impl Tasks {
             return Ok(());
         }
         append_kept(
+            self.alloc,
             call,
             self.entries.as_slice(),
             self.scopes.as_slice(),
-            self.places.as_slice(),
+            &mut self.here,
             now,
             values,
             &mut self.out,
@@ -510,7 +550,7 @@ impl Tasks {
                     function,
                     args.as_slice(),
                     self.entries.as_slice(),
-                    place_at(self.places.as_slice(), scope),
+                    scale_of(self.scopes.as_slice(), scope),
                     kept_of(stack, *pops),
                     now,
                     values,
@@ -564,27 +604,27 @@ fn said_by(task: Task) -> Said
     }
 }
 
-/// The value of a function.
+/// The value of a function. Of the place it takes the scale alone, in ticks.
 fn function_value<V: Values>(
     function: Function,
     args: &[Arg<u32>],
     entries: &[Entry],
-    place: &Place,
+    scale: u64,
     kept: Kept<'_>,
     now: u64,
     values: &V,
 ) -> Vec4
     requires answers { Answers entries.now (V.words_of values.now) }
     requires fits { IsTrue (function_takes function entries.now (items_of kept) args.now) }
-    requires scale { 1 ≤ place.now.scale }
-    ensures { result ≡ function_value entries.now (record { words = V.words_of values.now; now = now; place = place.now; kept = items_of kept.entry }) function args.now }
+    requires scale { 1 ≤ scale }
+    ensures { result ≡ function_value entries.now (record { words = V.words_of values.now; now = now; place = place_with [] scale; kept = items_of kept.entry }) function args.now }
 {
     match function {
-        Function::Time => time_value(place.scale, now),
-        Function::ShortTime => short_time_value(place.scale, now),
+        Function::Time => time_value(scale, now),
+        Function::ShortTime => short_time_value(scale, now),
         Function::SimTime => sim_time_value(now),
         Function::Logarithm => match args {
-            [arg, ..] => clog2(argument_value(arg, entries, place, kept, now, values)),
+            [arg, ..] => clog2(argument_value(arg, entries, scale, kept, now, values)),
             [] => Vec4::splat(Bit::Unknown, 32),
         },
     }

@@ -4,7 +4,8 @@ use Rattle.sys_tasks.proofs.tasks.Tasks.choose.Goals as goal
 
 pub invariant_of-self : goal.invariant_of-self
 invariant_of-self c = record {
-  places = c.self.invariant.places;
+  here = c.self.invariant.here;
+  scales = c.self.invariant.scales;
   can_dump = c.self.invariant.can_dump;
   strobes = c.self.invariant.strobes;
   monitor = c.self.invariant.monitor;

@@ -48,7 +48,8 @@ invariant_of-self-in_err-on c =
     let has = inner-widths _ c.self.inside.entries.items c.args.plane.now (ap (λ (t : TasksNow). t.design.entries) c.self.view_is) c.requires.widths in
     let writing = writing-at c.self.inside.entries.items c.self.inside.state c.self.inside.writer c.in-Some.writer c.in-Some.is c.self.invariant.writing in
     record {
-      places = c.self.invariant.places;
+      here = c.self.invariant.here;
+      scales = c.self.invariant.scales;
       can_dump = c.self.invariant.can_dump;
       strobes = c.self.invariant.strobes;
       monitor = c.self.invariant.monitor;
@@ -73,7 +74,8 @@ invariant_of-self-2 c =
     let has = inner-widths _ c.self.inside.entries.items c.args.plane.now (ap (λ (t : TasksNow). t.design.entries) c.self.view_is) c.requires.widths in
     let writing = writing-at c.self.inside.entries.items c.self.inside.state c.self.inside.writer c.in-Some.writer c.in-Some.is c.self.invariant.writing in
     record {
-      places = c.self.invariant.places;
+      here = c.self.invariant.here;
+      scales = c.self.invariant.scales;
       can_dump = c.self.invariant.can_dump;
       strobes = c.self.invariant.strobes;
       monitor = c.self.invariant.monitor;
