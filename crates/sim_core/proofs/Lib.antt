@@ -26,6 +26,7 @@ pub mod EffectLemmas
 pub mod EffectMoreLemmas
 pub mod TaskLemmas
 pub mod OpcodeLemmas
+pub mod LocalLemmas
 pub mod MethodLemmas
 pub mod Computing
 pub mod Words
@@ -38,3 +39,4 @@ pub mod LoadLemmas
 pub mod StartedLemmas
 pub mod TookLemmas
 pub mod SnapshotLemmas
+pub mod RefusedLemmas

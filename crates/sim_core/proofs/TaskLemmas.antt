@@ -47,7 +47,12 @@ pub phase-cut : (w : Whole) (old : Shown) (tasks : TasksNow) → shown_of w ≡ 
     → PhaseCut old (shown_of (record w { tasks = tasks; failed = true }))
 phase-cut w old tasks view nodes part =
     let moved : IsPartOf w.tasks (phase w.held.program (shown_of w).machine).tasks tasks = subst (λ (ns : List Node). IsPartOf w.tasks (read_only w.held.schedule.now (words_of ns w.held.net.values) w.tasks) tasks) nodes part in
-    subst (λ (s : Shown). PhaseCut s (shown_of (record w { tasks = tasks; failed = true }))) view (record { cut = record { out = moved.out; dump = moved.dump }; program = refl; order = refl })
+    subst (λ (s : Shown). PhaseCut s (shown_of (record w { tasks = tasks; failed = true }))) view (record {
+      cut = record { out = moved.out; dump = moved.dump };
+      kept = record { values = refl; pending = refl; running = refl; taken = refl; ending = refl };
+      program = refl;
+      order = refl;
+    })
 
 -- ---- a task
 

@@ -1,5 +1,5 @@
 -- What an engine shows, and when that follows the list machine.
-use Rattle.std.specs.Prelude.{◌≡◌, ℕ, Bool, List, ◌++◌}
+use Rattle.std.specs.Prelude.{◌≡◌, ℕ, Bool, List, ◌++◌, IsSome}
 use Rattle.event_pool.specs.Following.{Follows}
 use Rattle.net_engine.specs.Kept.{in_turn_of}
 use Rattle.sys_tasks.specs.Conditions.{IsBetween}
@@ -48,3 +48,13 @@ pub record EngineFails (f : Machine → Machine) (old new : Shown) : Type 0 wher
       → IsBetween (sent.dump ++ old.machine.tasks.dump) (f machine).tasks.dump (sent.dump ++ new.machine.tasks.dump)
   pub program : new.program ≡ old.program
   pub order : new.order ≡ old.order
+
+-- Memory was wanting in a step: the values of items, the words of arrays, what is forced and the requests of net delays are those
+-- from before it, and so are the thread that runs and the ending. Where a thread was running, so are the time, all that is
+-- pending, and how many dues were taken.
+pub record EngineKeeps (old new : Machine) : Type 0 where
+  pub values : new.state.values ≡ old.state.values
+  pub running : new.running ≡ old.running
+  pub ending : new.ending ≡ old.ending
+  pub pending : IsSome old.running → new.state.pending ≡ old.state.pending
+  pub taken : IsSome old.running → new.taken ≡ old.taken

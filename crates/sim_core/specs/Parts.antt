@@ -1,5 +1,5 @@
 -- What the parts of a step do to what an engine shows.
-use Rattle.std.specs.Prelude.{◌≡◌, ℕ, ◌+◌, ◌<◌, ◌≤◌, max, Bool, true, false, Option, Some, None, IsTrue, List, length, slice_get, IfSome}
+use Rattle.std.specs.Prelude.{◌≡◌, ℕ, ◌+◌, ◌*◌, ◌^◌, ◌<◌, ◌≤◌, max, Bool, true, false, Option, Some, None, IsTrue, List, length, slice_get, IfSome}
 use Rattle.std.specs.Option.{option_map_or}
 use Rattle.four_state.specs.declared.bits.Bit.{Bit}
 use Rattle.event_pool.specs.declared.agenda.Settled.{Settled}
@@ -14,7 +14,9 @@ use Rattle.vvp_threads.specs.Keyed.{KeyedTable}
 use Rattle.op_exec.specs.declared.effect.TrapKind.TheVariants.{OffEnd}
 use Rattle.vvp_ops.specs.declared.op.Op.{Op}
 use Rattle.op_exec.specs.declared.effect.Effect.{Effect}
-use Rattle.op_exec.specs.declared.effect.Effect.TheVariants.{Set, Assign, Wait, Fork, Join, Disable, Trigger, Task, Func, Force, Release}
+use Rattle.op_exec.specs.declared.effect.Local.{Local}
+use Rattle.op_exec.specs.declared.effect.Local.TheVariants as local
+use Rattle.op_exec.specs.declared.effect.Effect.TheVariants.{Next, Goto, Trap, Set, Assign, Wait, Fork, Join, Disable, Trigger, Task, Func, Force, Release}
 use Rattle.op_exec.specs.Does.{does}
 use Rattle.op_exec.specs.Rows.{value_of}
 use Rattle.net_engine.specs.Kept.{IsWritable}
@@ -32,6 +34,16 @@ use Rattle.event_pool.specs.declared.agenda.Due.{Due}
 use Rattle.event_pool.specs.Schedule.{active_dues}
 use Rattle.sim_core.specs.Step.{apply, with_taken, without_due, choice_of}
 use Rattle.sim_core.specs.Engine.{Shown, in_turn_of_machine}
+
+-- ---- a step
+
+-- a step is counted
+abbrev pub stepped : Machine → Machine
+stepped machine = record machine { steps = machine.steps + 1 }
+
+-- the peak is taken of the dues that are pending
+abbrev pub peaked : Machine → Machine
+peaked machine = record machine { peak = max machine.peak (length (dues_of machine)) }
 
 -- ---- following
 
@@ -60,6 +72,20 @@ pub record Unprinted (old new : Shown) : Type 0 where
   pub program : new.program ≡ old.program
   pub order : new.order ≡ old.order
 
+-- the values, what is pending, the thread that runs, the dues taken and the ending are as before
+pub record Untouched (old new : Machine) : Type 0 where
+  pub values : new.state.values ≡ old.state.values
+  pub pending : new.state.pending ≡ old.state.pending
+  pub running : new.running ≡ old.running
+  pub taken : new.taken ≡ old.taken
+  pub ending : new.ending ≡ old.ending
+
+-- the values, the thread that runs and the ending are as before, whatever is pending
+pub record Unwritten (old new : Machine) : Type 0 where
+  pub values : new.state.values ≡ old.state.values
+  pub running : new.running ≡ old.running
+  pub ending : new.ending ≡ old.ending
+
 -- what was printed and dumped goes on from before, and what was due goes on from it
 pub record Cut (old due new : TasksNow) : Type 0 where
   pub out : IsBetween old.out due.out new.out
@@ -68,6 +94,7 @@ pub record Cut (old due new : TasksNow) : Type 0 where
 -- memory was wanting in the read-only phase
 pub record PhaseCut (old new : Shown) : Type 0 where
   pub cut : Cut old.machine.tasks (phase old.program old.machine).tasks new.machine.tasks
+  pub kept : Untouched old.machine new.machine
   pub program : new.program ≡ old.program
   pub order : new.order ≡ old.order
 
@@ -90,12 +117,27 @@ pub record CanGoOn (shown : Shown) (serial : ℕ) (thread : Thread) : Type 0 whe
   pub runs : Runs shown serial thread
   pub place : thread.frame.pc < length shown.program.code
 
+-- a step of this thread has begun, from what was shown before
+pub record Begun (old begun : Shown) (serial : ℕ) (thread : Thread) : Type 0 where
+  pub runs : Runs old serial thread
+  pub begins : begun ≡ record old { machine = stepped old.machine }
+  pub drawn : length old.machine.state.threads.threads < old.machine.steps + 1 + length old.program.threads
+  pub few : old.machine.steps < 3 * 2 ^ 62
+
 -- ---- opcodes
 
 -- an opcode has done this to a frame, with this effect; with none there is no opcode at its place
 abbrev pub Done : List (Op ℕ) → Frame → Frame → (ℕ → List (List Bit)) → Option Effect → Type 0
 Done code old new words None = (slice_get code old.pc ≡ None) × (new ≡ old)
 Done code old new words (Some effect) = (op : Op ℕ) × (slice_get code old.pc ≡ Some op) × (does op old words ≡ (new, effect))
+
+-- what the row of an opcode did that asks nothing of the run but to go on is what its effect says, or there was no memory and all
+-- stays
+abbrev pub Locally : (Option Effect → Type 0) → Type 0 → Local → Type 0
+Locally by stays local.Next = by (Some Next)
+Locally by stays (local.Goto place) = by (Some (Goto place))
+Locally by stays (local.Trap kind) = by (Some (Trap kind))
+Locally by stays local.NoMemory = stays
 
 -- what an effect needs of what is shown, of the thread that has this frame
 abbrev pub EffectFits : Shown → ℕ → Frame → Effect → Type 0
@@ -199,11 +241,3 @@ abbrev pub take_by_order : Program → ℕ → Machine → Machine
 take_by_order program order machine = applied_at program (choice_of order machine) machine
 
 -- ---- counting
-
--- a step is counted
-abbrev pub stepped : Machine → Machine
-stepped machine = record machine { steps = machine.steps + 1 }
-
--- the peak is taken of the dues that are pending
-abbrev pub peaked : Machine → Machine
-peaked machine = record machine { peak = max machine.peak (length (dues_of machine)) }

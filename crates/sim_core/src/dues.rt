@@ -1,6 +1,6 @@
 //! Taking a due.
 
-ghost use Rattle.std.specs.Prelude.{◌≡◌, ◌<◌, ◌≤◌, ◌+◌, ◌*◌, ◌^◌, ℕ, List, Some, None, Option, true, false, OnOk, OnErr, IfOk, IfSome, is_some, length, min, All, IsTrue, option_map, if◌then◌else◌};
+ghost use Rattle.std.specs.Prelude.{◌≡◌, ◌<◌, ◌≤◌, ◌+◌, ◌-◌, ◌*◌, ◌^◌, ℕ, List, Some, None, Option, true, false, OnOk, OnErr, IfOk, IfSome, is_some, length, min, All, IsTrue, option_map, if◌then◌else◌};
 ghost use Rattle.vvp_threads.specs.Keyed.{IsKeyOf};
 ghost use Rattle.vvp_threads.specs.Runs.{HasKey};
 ghost use Rattle.vvp_threads.specs.declared.thread.ThreadState.{ThreadState};
@@ -8,9 +8,11 @@ ghost use Rattle.vvp_threads.specs.Table.{IsInState, has, live_count, thread_of,
 ghost use Rattle.sim_core.specs.declared.engine.Running.{Running};
 ghost use Rattle.event_pool.specs.declared.agenda.Act.{Act};
 ghost use Rattle.event_pool.specs.declared.agenda.Settled.{Settled};
-ghost use Rattle.sim_core.specs.Step.{advance, is_ready, ready, settle, step};
+ghost use Rattle.event_pool.specs.Schedule.{active_dues};
+ghost use Rattle.sim_core.specs.Step.{advance, is_ready, pick, ready, settle, step};
+ghost use Rattle.sim_core.specs.Engine.{EngineKeeps};
 ghost use Rattle.sim_core.specs.Machine.{dues_of, now_of};
-ghost use Rattle.sim_core.specs.Parts.{ShownFollows, ShownSteps, ShownFails, Unprinted, is_ready_state, is_delay_in, stepped, take_by_order, with_pending};
+ghost use Rattle.sim_core.specs.Parts.{ShownFollows, ShownSteps, ShownFails, Unprinted, Unwritten, is_ready_state, is_delay_in, stepped, take_by_order, with_pending};
 
 use crate::ending::Ending;
 use crate::engine::{Engine, Running};
@@ -77,6 +79,19 @@ fn make_delay_room<A: Agenda>(
     Ok(())
 }
 
+// The place of the Active due of now that an order picks, when so many were taken before. Order 0 picks the first, and doesn't
+// count them.
+fn picked<A: Agenda>(agenda: &A, order: u32, taken: u64) -> usize
+    requires some { 0 < length (active_dues (A.schedule agenda.now).now (A.schedule agenda.now).dues) }
+    requires few { taken < 2 ^ 64 - 1 }
+    ensures { result ≡ pick order taken (length (active_dues (A.schedule agenda.now).now (A.schedule agenda.now).dues)) }
+{
+    if order == 0 {
+        return 0;
+    }
+    pick(order, taken, agenda.active_len())
+}
+
 impl<A: Agenda + Drop, F: Fanout + Drop> Engine<A, F> {
     /// Does one step of a run that goes on.
     pub(crate) fn go_on(&mut self) -> Result<(), AllocError>
@@ -85,6 +100,7 @@ impl<A: Agenda + Drop, F: Fanout + Drop> Engine<A, F> {
         requires steps { self.old.machine.steps < 3 * 2 ^ 62 }
         ensures ok { OnOk result (ShownSteps (step self.old.program self.old.order) self.old self.new) }
         ensures err { OnErr result (ShownFails (step self.old.program self.old.order) self.old self.new) }
+        ensures kept { OnErr result (EngineKeeps self.old.machine self.new.machine) }
     {
         if self.running.is_some() {
             return self.run_opcode();
@@ -102,7 +118,9 @@ impl<A: Agenda + Drop, F: Fanout + Drop> Engine<A, F> {
         ensures ok { OnOk result (ShownFollows (ready self.old.program) self.old self.new) }
         ensures answer { IfOk result (λ found. found ≡ is_ready self.new.machine) }
         ensures running { OnOk result (self.new.machine.running ≡ self.old.machine.running) }
+        ensures still { IfOk result (λ found. found ≡ true → Unwritten self.old.machine self.new.machine) }
         ensures err { OnErr result (ShownFails (ready self.old.program) self.old self.new) }
+        ensures kept { OnErr result (Unwritten self.old.machine self.new.machine) }
     {
         match self.settle() {
             Settled::Ready => Ok(true),
@@ -150,8 +168,9 @@ impl<A: Agenda + Drop, F: Fanout + Drop> Engine<A, F> {
         requires steps { self.old.machine.steps < 3 * 2 ^ 62 }
         ensures ok { OnOk result (ShownSteps (λ machine. take_by_order self.old.program self.old.order (stepped machine)) self.old self.new) }
         ensures err { OnErr result (Unprinted self.old self.new) }
+        ensures kept { OnErr result (Unwritten self.old.machine self.new.machine) }
     {
-        let place = pick(self.order, self.taken, self.agenda.active_len());
+        let place = picked(&self.agenda, self.order, self.taken);
         let act: Act = self.agenda.take_nth(place).act;
         self.steps += 1;
         self.taken += 1;

@@ -9,7 +9,7 @@ ghost use Rattle.vvp_threads.specs.Table.{live_count};
 ghost use Rattle.vvp_ops.specs.declared.op.Op.{Op};
 ghost use Rattle.op_exec.specs.declared.effect.Effect.{Effect};
 ghost use Rattle.sim_core.specs.Effects.{affect, assigned_later, delayed, waiting, forked, joined, disabled, ended};
-ghost use Rattle.sim_core.specs.Parts.{Runs, CanGoOn, ShownFollows, ShownFails, EffectFits, delayed_run, child_put};
+ghost use Rattle.sim_core.specs.Parts.{Runs, CanGoOn, ShownFollows, ShownFails, Untouched, EffectFits, delayed_run, child_put};
 
 use crate::ending::Ending;
 use crate::engine::Engine;
@@ -118,6 +118,7 @@ impl<A: Agenda + Drop, F: Fanout + Drop> Engine<A, F> {
             → ShownFollows (assigned_later item word offset value delay serial thread.frame) self.old self.new) }
         ensures err { OnErr result ((serial : ℕ) (thread : Thread) → CanGoOn self.old serial thread
             → ShownFails (assigned_later item word offset value delay serial thread.frame) self.old self.new) }
+        ensures kept { OnErr result (Untouched self.old.machine self.new.machine) }
     {
         match self.agenda.now().checked_add(delay) {
             None => {
@@ -209,6 +210,7 @@ impl<A: Agenda + Drop, F: Fanout + Drop> Engine<A, F> {
             → ShownFollows (forked code scope serial thread.frame) self.old self.new) }
         ensures err { OnErr result ((serial : ℕ) (thread : Thread) → CanGoOn self.old serial thread
             → ShownFails (forked code scope serial thread.frame) self.old self.new) }
+        ensures kept { OnErr result (Untouched self.old.machine self.new.machine) }
     {
         if self.threads.live() >= THREADS {
             self.trap(TrapKind::ThreadsOver);
@@ -281,6 +283,7 @@ impl<A: Agenda + Drop, F: Fanout + Drop> Engine<A, F> {
             → ShownFollows (affect self.old.program op effect serial thread.frame) self.old self.new) }
         ensures err { OnErr result ((serial : ℕ) (thread : Thread) (op : Op ℕ) → CanGoOn self.old serial thread → slice_get self.old.program.code thread.frame.pc ≡ Some op
             → ShownFails (affect self.old.program op effect serial thread.frame) self.old self.new) }
+        ensures kept { OnErr result (Untouched self.old.machine self.new.machine) }
     {
         match effect {
             Effect::Next => {

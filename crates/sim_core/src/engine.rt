@@ -5,7 +5,7 @@ ghost use Rattle.sym_link.specs.Roots.{nodes_of};
 ghost use Rattle.sym_link.specs.Sound.{IsProgram};
 ghost use Rattle.sys_tasks.specs.Phase.{dump_name};
 ghost use Rattle.net_engine.specs.Readers.{driven_ports};
-ghost use Rattle.sim_core.specs.Engine.{EngineFails, EngineFollows, Shown, in_turn_of_machine};
+ghost use Rattle.sim_core.specs.Engine.{EngineFails, EngineFollows, EngineKeeps, Shown, in_turn_of_machine};
 ghost use Rattle.sim_core.specs.Start.{start_of};
 ghost use Rattle.sim_core.specs.Step.{is_idle, step};
 
@@ -204,13 +204,18 @@ impl<A: Agenda + Drop, F: Fanout + Drop> Engine<A, F> {
     ///
     /// # Errors
     ///
-    /// `AllocError` where memory is wanting, and then for good. Output and dump are then beginnings of what was due.
+    /// `AllocError` where memory is wanting, and then for good. Output and dump are then beginnings of what was due. The values of
+    /// items, the words of arrays, what is forced and the requests of net delays are those from before the step. Where a thread
+    /// was running, so are the time and all that is pending: no opcode that wants memory, such as a fork or a nonblocking
+    /// assignment, has written a value or put a due. Where none was, dues of the present time may have gone on to the active
+    /// region, the next time may have been reached, and the due whose evaluation wanted memory is no longer pending.
     pub fn step(&mut self) -> Result<Option<Ending>, AllocError>
         requires { self.old.machine.steps < 3 * 2 ^ 62 }
         ensures ok { OnOk result (EngineFollows (step self.old.program self.old.order) self.old self.new) }
         ensures answer { IfOk result (λ ending. ending ≡ self.new.machine.ending) }
         ensures counted { OnOk result (self.new.machine.steps ≤ self.old.machine.steps + 1) }
         ensures err { OnErr result (EngineFails (step self.old.program self.old.order) self.old self.new) }
+        ensures kept { OnErr result (EngineKeeps self.old.machine self.new.machine) }
         ensures failed { OnErr result (self.new.failed ≡ true) }
         ensures refused { self.old.failed ≡ true → IsErr result × (self.new ≡ self.old) }
     {

@@ -1,6 +1,6 @@
 //! The running thread's next opcode.
 
-ghost use Rattle.std.specs.Prelude.{◌≡◌, ◌≢◌, ◌<◌, ◌≤◌, ◌+◌, ◌*◌, ◌^◌, ℕ, List, Some, None, Option, true, false, OnOk, OnErr, IfOk, length, slice_get, slice_index, option_map};
+ghost use Rattle.std.specs.Prelude.{◌≡◌, ◌≢◌, ◌<◌, ◌≤◌, ◌+◌, ◌*◌, ◌^◌, ℕ, List, Some, None, Option, true, false, OnOk, OnErr, IfOk, IfSome, IfNone, length, slice_get, slice_index, option_map};
 ghost use Rattle.four_state.specs.declared.bits.Bit.{Bit};
 ghost use Rattle.vvp_threads.specs.declared.thread.Thread.{Thread};
 ghost use Rattle.vvp_threads.specs.Keyed.{IsKeyOf};
@@ -14,8 +14,9 @@ ghost use Rattle.net_engine.specs.Parts.{plane_of};
 ghost use Rattle.sim_core.specs.Machine.{ended_as, phase};
 ghost use Rattle.sys_tasks.specs.Tasks.{said_of};
 ghost use Rattle.sim_core.specs.Effects.{task_called, function_called, told};
+ghost use Rattle.sim_core.specs.Engine.{Shown};
 ghost use Rattle.sim_core.specs.Step.{proceed};
-ghost use Rattle.sim_core.specs.Parts.{Runs, CanGoOn, ShownFollows, ShownSteps, ShownFails, EffectFits, Done, FrameDone, LeavesBy, MayAffect, Heeds, HeedsFail, PhaseCut, stepped, peaked, task_done};
+ghost use Rattle.sim_core.specs.Parts.{Runs, Begun, Locally, CanGoOn, ShownFollows, ShownSteps, ShownFails, EffectFits, Done, FrameDone, LeavesBy, MayAffect, Heeds, HeedsFail, PhaseCut, Untouched, stepped, peaked, task_done};
 
 use crate::calls::{call_function_at, call_task_at};
 use crate::ending::Ending;
@@ -24,7 +25,7 @@ use crate::pieces::{greater, place_of};
 use event_pool::Agenda;
 use four_state::Values;
 use net_engine::Net;
-use op_exec::{Effect, TrapKind, exec};
+use op_exec::{Effect, Local, TrapKind, exec, exec_local};
 use port_chain::Fanout;
 use std::alloc::AllocError;
 use sys_tasks::{Said, Tasks};
@@ -52,6 +53,40 @@ fn scope_there(scopes: &[u32], place: u32) -> u32
     ensures { result ≡ slice_index scopes.now place }
 {
     scopes[place as usize]
+}
+
+// Does the opcode at which a thread stands, on its own frame, where it asks nothing of the run but to go on; none, and nothing
+// is done, where it asks more.
+#[inline(always)]
+fn do_local<V: Values>(code: &[Op<u32>], frame: &mut Frame, values: &V) -> Option<Local>
+    requires { (op : Op ℕ) → slice_get code.now frame.old.pc ≡ Some op → IsExecutable (V.words_of values.now) op }
+    ensures done { IfSome result (Locally (Done code.now frame.old frame.new (V.words_of values.now)) (frame.new ≡ frame.old)) }
+    ensures kept { IfNone result (frame.new ≡ frame.old) }
+{
+    match op_at(code, frame.pc) {
+        Some(op) => exec_local(op, frame, values),
+        None => None,
+    }
+}
+
+// The same for the thread under a key.
+#[inline(always)]
+fn do_local_at<V: Values>(
+    threads: &mut Threads,
+    key: usize,
+    code: &[Op<u32>],
+    values: &V,
+) -> Option<Local>
+    requires live { (serial : ℕ) × (thread : Thread) × IsKeyOf threads.old serial key × (thread_of threads.old.table serial ≡ Some thread) }
+    requires fits { (place : ℕ) (op : Op ℕ) → slice_get code.now place ≡ Some op → IsExecutable (V.words_of values.now) op }
+    ensures done { IfSome result (λ local. (serial : ℕ) (thread : Thread) → IsKeyOf threads.old serial key → thread_of threads.old.table serial ≡ Some thread
+        → Locally (λ effect. FrameDone effect code.now (V.words_of values.now) threads.old threads.new serial thread) (threads.new ≡ threads.old) local) }
+    ensures kept { IfNone result (threads.new ≡ threads.old) }
+{
+    match threads.get_mut(key) {
+        Some(frame) => do_local(code, frame, values),
+        None => unreachable!(),
+    }
 }
 
 // Does the opcode at which a thread stands, on its own frame, and answers its effect; none where it stands past the last
@@ -111,8 +146,70 @@ impl<A: Agenda + Drop, F: Fanout + Drop> Engine<A, F> {
         requires steps { self.old.machine.steps < 3 * 2 ^ 62 }
         ensures ok { OnOk result ((serial : ℕ) (thread : Thread) → Runs self.old serial thread → ShownSteps (proceed self.old.program serial) self.old self.new) }
         ensures err { OnErr result ((serial : ℕ) (thread : Thread) → Runs self.old serial thread → ShownFails (proceed self.old.program serial) self.old self.new) }
+        ensures kept { OnErr result (Untouched self.old.machine self.new.machine) }
     {
         self.begin_step();
+        match self.do_local() {
+            Some(local) => self.heed_local(local),
+            None => self.ask(),
+        }
+    }
+
+    // Does the running thread's next opcode on its own frame, where it asks nothing of the run but to go on; none, and nothing
+    // is done, where it asks more.
+    #[inline(always)]
+    fn do_local(&mut self) -> Option<Local>
+        requires at { (serial : ℕ) × (thread : Thread) × Runs self.old serial thread }
+        ensures done { IfSome result (λ local. (serial : ℕ) (thread : Thread) → Runs self.old serial thread
+            → Locally (λ effect. LeavesBy effect self.old self.new serial thread) (self.new ≡ self.old) local) }
+        ensures kept { IfNone result (self.new ≡ self.old) }
+    {
+        let running = self.running.unwrap();
+        self.net.widths();
+        let code = self.program.code.as_slice();
+        do_local_at(&mut self.threads, running.key, code, &self.net)
+    }
+
+    // Ends a step whose opcode asked nothing of the run but to go on.
+    #[inline(always)]
+    fn heed_local(&mut self, local: Local) -> Result<(), AllocError>
+        requires at { (old begun : Shown) × (serial : ℕ) × (thread : Thread) × Begun old begun serial thread
+            × Locally (λ effect. LeavesBy effect begun self.old serial thread) (self.old ≡ begun) local }
+        ensures ok { OnOk result ((old begun : Shown) (serial : ℕ) (thread : Thread) → Begun old begun serial thread
+            → Locally (λ effect. LeavesBy effect begun self.old serial thread) (self.old ≡ begun) local → ShownSteps (proceed old.program serial) old self.new) }
+        ensures err { OnErr result ((old begun : Shown) (serial : ℕ) (thread : Thread) → Begun old begun serial thread
+            → Locally (λ effect. LeavesBy effect begun self.old serial thread) (self.old ≡ begun) local → ShownFails (proceed old.program serial) old self.new) }
+        ensures kept { OnErr result ((old begun : Shown) (serial : ℕ) (thread : Thread) → Begun old begun serial thread
+            → Locally (λ effect. LeavesBy effect begun self.old serial thread) (self.old ≡ begun) local → Untouched old.machine self.new.machine) }
+    {
+        match local {
+            Local::Next => {
+                self.go_next();
+                self.see_peak();
+                Ok(())
+            }
+            Local::Goto(place) => {
+                self.go_to(place);
+                self.see_peak();
+                Ok(())
+            }
+            Local::Trap(kind) => {
+                self.trap(kind);
+                self.see_peak();
+                Ok(())
+            }
+            Local::NoMemory => Err(AllocError),
+        }
+    }
+
+    // Does the running thread's next opcode, which asks something of the run, and what its effect says, of a step that has begun.
+    #[inline(never)]
+    fn ask(&mut self) -> Result<(), AllocError>
+        requires at { (old : Shown) × (serial : ℕ) × (thread : Thread) × Begun old self.old serial thread }
+        ensures ok { OnOk result ((old : Shown) (serial : ℕ) (thread : Thread) → Begun old self.old serial thread → ShownSteps (proceed old.program serial) old self.new) }
+        ensures err { OnErr result ((old : Shown) (serial : ℕ) (thread : Thread) → Begun old self.old serial thread → ShownFails (proceed old.program serial) old self.new) }
+        ensures kept { OnErr result ((old : Shown) (serial : ℕ) (thread : Thread) → Begun old self.old serial thread → Untouched old.machine self.new.machine) }
+    {
         let effect = self.do_opcode()?;
         self.heed(effect)?;
         self.see_peak();
@@ -126,6 +223,7 @@ impl<A: Agenda + Drop, F: Fanout + Drop> Engine<A, F> {
         requires steps { self.old.machine.steps ≤ 3 * 2 ^ 62 }
         ensures ok { OnOk result ((serial : ℕ) (thread : Thread) → Runs self.old serial thread → Heeds effect self.old self.new serial thread) }
         ensures err { OnErr result ((serial : ℕ) (thread : Thread) → Runs self.old serial thread → HeedsFail effect self.old self.new serial thread) }
+        ensures kept { OnErr result (Untouched self.old.machine self.new.machine) }
     {
         match effect {
             Some(effect) => self.affect(effect),
@@ -155,6 +253,7 @@ impl<A: Agenda + Drop, F: Fanout + Drop> Engine<A, F> {
             → ShownFollows (task_called self.old.program op serial thread.frame) self.old self.new) }
         ensures err { OnErr result ((serial : ℕ) (thread : Thread) (op : Op ℕ) → CanGoOn self.old serial thread → slice_get self.old.program.code thread.frame.pc ≡ Some op
             → ShownFails (task_called self.old.program op serial thread.frame) self.old self.new) }
+        ensures kept { OnErr result (Untouched self.old.machine self.new.machine) }
     {
         let said = self.do_task()?;
         self.told(said)

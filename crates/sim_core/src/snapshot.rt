@@ -346,8 +346,9 @@ fn delay_list<F: Fanout + Drop>(
 
 impl<A: Agenda + Drop, F: Fanout + Drop> Engine<A, F> {
     /// A copy of what the engine holds, in time linear in that and in the number of threads that were started. Where memory was
-    /// wanting in a step, it is what the engine holds since then: where a fork or a nonblocking assignment wanted it, values,
-    /// words and dues are those from before the step. The only error is want of memory.
+    /// wanting in a step, it is what the engine holds since then: by the clause `kept` of `step` the values, the words, what is
+    /// forced and the last requests are those from before that step, and where a thread was running, as at a fork or a nonblocking
+    /// assignment, the time and the dues too. The only error is want of memory.
     pub fn snapshot(&self, alloc: Global) -> Result<Snapshot, AllocError>
         ensures { IfOk result (λ snapshot. snapshot ≡ snapshot_of self.now.program self.now.order self.now.machine) }
     {

@@ -12,6 +12,7 @@ use Rattle.sim_core.specs.Effects.{assigned_later, forked, function_called}
 use Rattle.sim_core.specs.Engine.{Shown}
 use Rattle.sim_core.specs.Parts.{CanGoOn, EffectFits, ShownFails, ShownFollows}
 use Rattle.sim_core.proofs.EffectLemmas.{func-exact, join-exact, next-exact, place-exact, shown-same, trap-shown, wait-exact}
+use Rattle.sim_core.proofs.RefusedLemmas.{untouched-same}
 use Rattle.sim_core.proofs.engine.Engine.affect.Goals as goal
 
 pub go_next-requires : goal.go_next-requires
@@ -144,3 +145,7 @@ pub returns-in-Func-clause-err : goal.returns-in-Func-clause-err
 returns-in-Func-clause-err g c = rw c.in-Func.is (on_err_weaker c.call_function.result
     (λ (k : c.call_function.new.self ≡ c.args.self.now). λ serial thread op can at.
     shown-same (function_called c.args.self.now.program op serial thread.frame) c.args.self.now c.call_function.new.self (λ m. refl) (ap (λ (s : Shown). s.machine.tasks) k) (ap (λ (s : Shown). s.program) k) (ap (λ (s : Shown). s.order) k)) c.call_function.ensures.err)
+
+pub returns-in-Func-clause-kept : goal.returns-in-Func-clause-kept
+returns-in-Func-clause-kept g c = on_err_weaker c.call_function.result
+    (λ (k : c.call_function.new.self ≡ c.args.self.now). untouched-same c.args.self.now c.call_function.new.self k) c.call_function.ensures.err

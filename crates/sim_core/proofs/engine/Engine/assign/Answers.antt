@@ -7,6 +7,7 @@ use Rattle.sim_core.specs.Engine.{Shown}
 use Rattle.sim_core.proofs.EffectLemmas.{assign-runs, assign-shown, assign-sound, assigned-past, assigned-tasks, not-below, shown-same, update_at}
 use Rattle.sim_core.proofs.WholeLemmas.{shown_of, whole}
 use Rattle.sim_core.proofs.SoundLemmas.{lasts}
+use Rattle.sim_core.proofs.RefusedLemmas.{schedule-untouched}
 use Rattle.sim_core.proofs.engine.Engine.assign.Goals as goal
 
 pub returns-in_err-make_room-in-Some-clause-err : goal.returns-in_err-make_room-in-Some-clause-err
@@ -41,3 +42,9 @@ returns-in_ok-make_room-in-Some-clause-ok g c = λ serial thread can.
     assign-shown w c.args.self.now mid c.go_next.new.self serial thread.frame c.in-Some.time c.args.item c.args.word c.args.delay c.args.offset c.args.value (g.A.Agenda.schedule c.make_room.new.agenda) (g.A.Agenda.schedule c.put.new.self) c.self.view_is
     c.in_ok-make_room-in-Some.ensures.now c.in_ok-make_room-in-Some.ensures.dues at (subst (λ (n : ℕ). n + c.args.delay < 2 ^ 64) now c.in-Some.ensures.0) put refl
     (c.go_next.ensures serial thread (assign-runs w c.args.self.now mid serial thread (g.A.Agenda.schedule c.put.new.self) c.self.view_is refl can))
+
+pub returns-in_err-make_room-in-Some-clause-kept : goal.returns-in_err-make_room-in-Some-clause-kept
+returns-in_err-make_room-in-Some-clause-kept g c =
+    let p = err_from_is_err_and c.from_residual.result c.from_residual.ensures.1 in
+    let w = whole c.self.inside.program c.self.inside.scope_parents.items c.self.inside.outputs c.self.inside.order c.self.inside.net c.self.inside.threads (g.A.Agenda.schedule c.self.inside.agenda) c.self.inside.tasks c.self.inside.running c.self.inside.steps c.self.inside.peak c.self.inside.taken c.self.inside.ending c.self.inside.failed in
+    rw p.1 (schedule-untouched w c.args.self.now (g.A.Agenda.schedule c.make_room.new.agenda) c.self.view_is c.in_err-make_room-in-Some.ensures.err)

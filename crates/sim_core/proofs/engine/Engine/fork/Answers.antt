@@ -9,6 +9,7 @@ use Rattle.sim_core.specs.Parts.{Runs, ShownFollows, child_put}
 use Rattle.sim_core.proofs.EffectLemmas.{forked-past, forked-tasks, forked-then, shown-same}
 use Rattle.sim_core.proofs.FrameLemmas.{framed-count}
 use Rattle.sim_core.proofs.WholeLemmas.{next-runs}
+use Rattle.sim_core.proofs.RefusedLemmas.{next-untouched}
 use Rattle.sim_core.proofs.engine.Engine.fork.Goals as goal
 
 pub returns-then-live-ge-THREADS-clause-ok : goal.returns-then-live-ge-THREADS-clause-ok
@@ -53,3 +54,8 @@ returns-clause-err g c = on_err_weaker c.start_child.result
     let same = still ∙ c.go_next.ensures serial thread can in
     shown-same (forked c.args.code c.args.scope serial thread.frame) c.args.self.now c.start_child.new.self (forked-tasks c.args.code c.args.scope serial thread.frame)
     (ap (λ (s : Shown). s.machine.tasks) same) (ap (λ (s : Shown). s.program) same) (ap (λ (s : Shown). s.order) same)) c.start_child.ensures.err
+
+pub returns-clause-kept : goal.returns-clause-kept
+returns-clause-kept g c = on_err_weaker c.start_child.result
+    (λ (still : c.start_child.new.self ≡ c.go_next.new.self).
+    next-untouched c.args.self.now c.start_child.new.self c.requires.at.0 c.requires.at.1.frame (still ∙ c.go_next.ensures c.requires.at.0 c.requires.at.1 c.requires.at.2)) c.start_child.ensures.err

@@ -2,10 +2,11 @@ use Rattle.std.proofs.Common.{◌≡◌, ℕ, false, None, refl, sym, ap, ◌∙
 use Rattle.std.proofs.lemmas.Result.{err_from_is_err_and, on_err_weaker, on_ok_weaker}
 use Rattle.vvp_threads.specs.declared.thread.Thread.{Thread}
 use Rattle.sim_core.specs.Engine.{Shown}
-use Rattle.sim_core.specs.Parts.{Runs, ShownFails, ShownSteps}
+use Rattle.sim_core.specs.Parts.{Runs, ShownFails, ShownSteps, Untouched}
 use Rattle.sim_core.specs.Step.{proceed}
 use Rattle.sim_core.proofs.GoLemmas.{running-none, running-there, taken-shown}
 use Rattle.sim_core.proofs.TurnLemmas.{idle-steps, ready-fails, running-fails, running-steps, take-fails}
+use Rattle.sim_core.proofs.RefusedLemmas.{running-keeps, unwritten-by, waiting-keeps}
 use Rattle.sim_core.proofs.engine.Engine.go_on.Goals as goal
 
 pub run_opcode-requires-clause-at : goal.run_opcode-requires-clause-at
@@ -56,3 +57,20 @@ pub returns-else-branch-clause-ok : goal.returns-else-branch-clause-ok
 returns-else-branch-clause-ok g c =
     let rests : c.args.self.now.machine.running ≡ None = ap (λ (s : Shown). s.machine.running) (sym c.self.view_is) ∙ running-none c.self.inside.running (sym c.is_some.ensures ∙ c.if-is_some.false) in
     idle-steps c.args.self.now.program c.args.self.now.order c.args.self.now c.ready.new.self c.requires.going rests c.in_ok-ready.ensures.ok (sym c.in_ok-ready.ensures.answer ∙ c.if-branch.false)
+
+pub returns-then-is_some-clause-kept : goal.returns-then-is_some-clause-kept
+returns-then-is_some-clause-kept g c = on_err_weaker c.run_opcode.result
+    (λ (stays : Untouched c.args.self.now.machine c.run_opcode.new.self.machine). running-keeps c.args.self.now.machine c.run_opcode.new.self.machine stays) c.run_opcode.ensures.kept
+
+pub returns-in_err-ready-clause-kept : goal.returns-in_err-ready-clause-kept
+returns-in_err-ready-clause-kept g c =
+    let p = err_from_is_err_and c.from_residual.result c.from_residual.ensures.1 in
+    let rests : c.args.self.now.machine.running ≡ None = ap (λ (s : Shown). s.machine.running) (sym c.self.view_is) ∙ running-none c.self.inside.running (sym c.is_some.ensures ∙ c.if-is_some.false) in
+    rw p.1 (waiting-keeps c.args.self.now.machine c.ready.new.self.machine rests c.in_err-ready.ensures.kept)
+
+pub returns-in_err-take_due-clause-kept : goal.returns-in_err-take_due-clause-kept
+returns-in_err-take_due-clause-kept g c =
+    let p = err_from_is_err_and c.from_residual-in_err-take_due.result c.from_residual-in_err-take_due.ensures.1 in
+    let rests : c.args.self.now.machine.running ≡ None = ap (λ (s : Shown). s.machine.running) (sym c.self.view_is) ∙ running-none c.self.inside.running (sym c.is_some.ensures ∙ c.if-is_some.false) in
+    rw p.1 (waiting-keeps c.args.self.now.machine c.take_due.new.self.machine rests
+    (unwritten-by c.args.self.now.machine c.ready.new.self.machine c.take_due.new.self.machine (c.in_ok-ready.ensures.still c.if-branch.true) c.in_err-take_due.ensures.kept))

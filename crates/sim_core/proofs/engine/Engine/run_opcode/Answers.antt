@@ -1,42 +1,82 @@
-use Rattle.std.proofs.Common.{arith}
-use Rattle.std.proofs.lemmas.Result.{err_from_is_err_and}
-use Rattle.vvp_threads.specs.Table.{with_frame}
-use Rattle.sim_core.proofs.OpcodeLemmas.{begun-runs, left-drawn, left-steps, opcode-fails, opcode-steps, opcode-unprinted}
+use Rattle.std.proofs.Common.{◌≡◌, ℕ, ◌∙◌}
+use Rattle.std.proofs.lemmas.Result.{on_err_weaker, on_ok_weaker}
+use Rattle.vvp_threads.specs.declared.thread.Thread.{Thread}
+use Rattle.sim_core.specs.Engine.{Shown}
+use Rattle.sim_core.specs.Parts.{Begun, LeavesBy, Locally, ShownFails, ShownSteps, Untouched}
+use Rattle.sim_core.specs.Step.{proceed}
+use Rattle.sim_core.proofs.LocalLemmas.{has-begun}
+use Rattle.sim_core.proofs.OpcodeLemmas.{begun-runs}
 use Rattle.sim_core.proofs.engine.Engine.run_opcode.Goals as goal
 
-pub do_opcode-requires : goal.do_opcode-requires
-do_opcode-requires g c = record { at = (c.requires.at.0, c.requires.at.1, (begun-runs c.args.self.now c.begin_step.new.self c.requires.at.0 c.requires.at.1 c.begin_step.ensures.stepped c.requires.at.2)) }
+pub do_local-requires : goal.do_local-requires
+do_local-requires g c = record { at = (c.requires.at.0, c.requires.at.1, begun-runs c.args.self.now c.begin_step.new.self c.requires.at.0 c.requires.at.1 c.begin_step.ensures.stepped c.requires.at.2) }
 
-pub returns-in_err-effect-clause-err : goal.returns-in_err-effect-clause-err
-returns-in_err-effect-clause-err g c =
-    let p = err_from_is_err_and c.from_residual.result c.from_residual.ensures.1 in
-    rw p.1 (λ serial thread runs. opcode-unprinted c.args.self.now c.begin_step.new.self c.do_opcode.new.self serial c.begin_step.ensures.stepped c.in_err-effect.ensures.err)
+pub heed_local-requires : goal.heed_local-requires
+heed_local-requires g c = record {
+  at = (
+    c.args.self.now,
+    c.begin_step.new.self,
+    c.requires.at.0,
+    c.requires.at.1,
+    has-begun c.args.self.now c.begin_step.new.self c.requires.at.0 c.requires.at.1 c.requires.at.2 c.begin_step.ensures.stepped c.begin_step.ensures.drawn c.requires.steps,
+    c.in-Some.ensures.done c.requires.at.0 c.requires.at.1 (begun-runs c.args.self.now c.begin_step.new.self c.requires.at.0 c.requires.at.1 c.begin_step.ensures.stepped c.requires.at.2),
+  );
+}
 
-pub heed-requires-clause-at : goal.heed-requires-clause-at
-heed-requires-clause-at g c =
-    let l = (c.in_ok-effect.ensures.done c.requires.at.0 c.requires.at.1 (begun-runs c.args.self.now c.begin_step.new.self c.requires.at.0 c.requires.at.1 c.begin_step.ensures.stepped c.requires.at.2)) in
-    (c.requires.at.0, with_frame l.frame c.requires.at.1, l.runs, l.fits)
+pub returns-in-Some-clause-ok : goal.returns-in-Some-clause-ok
+returns-in-Some-clause-ok g c = on_ok_weaker c.heed_local.result
+    (λ (k : (old begun : Shown) (serial : ℕ) (thread : Thread) → Begun old begun serial thread
+    → Locally (λ effect. LeavesBy effect begun c.do_local.new.self serial thread) (c.do_local.new.self ≡ begun) c.in-Some.local → ShownSteps (proceed old.program serial) old c.heed_local.new.self).
+    λ serial thread runs. k c.args.self.now c.begin_step.new.self serial thread
+    (has-begun c.args.self.now c.begin_step.new.self serial thread runs c.begin_step.ensures.stepped c.begin_step.ensures.drawn c.requires.steps)
+    (c.in-Some.ensures.done serial thread (begun-runs c.args.self.now c.begin_step.new.self serial thread c.begin_step.ensures.stepped runs)))
+    c.heed_local.ensures.ok
 
-pub heed-requires-clause-drawn : goal.heed-requires-clause-drawn
-heed-requires-clause-drawn g c =
-    let l = (c.in_ok-effect.ensures.done c.requires.at.0 c.requires.at.1 (begun-runs c.args.self.now c.begin_step.new.self c.requires.at.0 c.requires.at.1 c.begin_step.ensures.stepped c.requires.at.2)) in
-    left-drawn c.args.self.now c.begin_step.new.self c.do_opcode.new.self _ c.requires.at.0 c.requires.at.1 c.begin_step.ensures.stepped l (c.begin_step.ensures.drawn c.requires.at.2.fine)
+pub returns-in-Some-clause-err : goal.returns-in-Some-clause-err
+returns-in-Some-clause-err g c = on_err_weaker c.heed_local.result
+    (λ (k : (old begun : Shown) (serial : ℕ) (thread : Thread) → Begun old begun serial thread
+    → Locally (λ effect. LeavesBy effect begun c.do_local.new.self serial thread) (c.do_local.new.self ≡ begun) c.in-Some.local → ShownFails (proceed old.program serial) old c.heed_local.new.self).
+    λ serial thread runs. k c.args.self.now c.begin_step.new.self serial thread
+    (has-begun c.args.self.now c.begin_step.new.self serial thread runs c.begin_step.ensures.stepped c.begin_step.ensures.drawn c.requires.steps)
+    (c.in-Some.ensures.done serial thread (begun-runs c.args.self.now c.begin_step.new.self serial thread c.begin_step.ensures.stepped runs)))
+    c.heed_local.ensures.err
 
-pub heed-requires-clause-steps : goal.heed-requires-clause-steps
-heed-requires-clause-steps g c =
-    let l = (c.in_ok-effect.ensures.done c.requires.at.0 c.requires.at.1 (begun-runs c.args.self.now c.begin_step.new.self c.requires.at.0 c.requires.at.1 c.begin_step.ensures.stepped c.requires.at.2)) in
-    let steps = left-steps c.args.self.now c.begin_step.new.self c.do_opcode.new.self _ c.requires.at.0 c.requires.at.1 c.begin_step.ensures.stepped l in
-    let few = c.requires.steps in
-    omega (arith, steps, few)
+pub returns-in-Some-clause-kept : goal.returns-in-Some-clause-kept
+returns-in-Some-clause-kept g c = on_err_weaker c.heed_local.result
+    (λ (k : (old begun : Shown) (serial : ℕ) (thread : Thread) → Begun old begun serial thread
+    → Locally (λ effect. LeavesBy effect begun c.do_local.new.self serial thread) (c.do_local.new.self ≡ begun) c.in-Some.local → Untouched old.machine c.heed_local.new.self.machine).
+    k c.args.self.now c.begin_step.new.self c.requires.at.0 c.requires.at.1
+    (has-begun c.args.self.now c.begin_step.new.self c.requires.at.0 c.requires.at.1 c.requires.at.2 c.begin_step.ensures.stepped c.begin_step.ensures.drawn c.requires.steps)
+    (c.in-Some.ensures.done c.requires.at.0 c.requires.at.1 (begun-runs c.args.self.now c.begin_step.new.self c.requires.at.0 c.requires.at.1 c.begin_step.ensures.stepped c.requires.at.2)))
+    c.heed_local.ensures.kept
 
-pub returns-in_err-heed-clause-err : goal.returns-in_err-heed-clause-err
-returns-in_err-heed-clause-err g c =
-    let p = err_from_is_err_and c.from_residual-in_err-heed.result c.from_residual-in_err-heed.ensures.1 in
-    rw p.1 (λ serial thread runs.
-    let l = c.in_ok-effect.ensures.done serial thread (begun-runs c.args.self.now c.begin_step.new.self serial thread c.begin_step.ensures.stepped runs) in
-    opcode-fails c.args.self.now c.begin_step.new.self c.do_opcode.new.self c.heed.new.self _ serial thread runs c.begin_step.ensures.stepped l (c.in_err-heed.ensures.err serial (with_frame l.frame thread) l.runs))
+pub ask-requires : goal.ask-requires
+ask-requires g c = record {
+  at = (
+    c.args.self.now,
+    c.requires.at.0,
+    c.requires.at.1,
+    has-begun c.args.self.now c.do_local.new.self c.requires.at.0 c.requires.at.1 c.requires.at.2 (c.in-None.ensures.kept ∙ c.begin_step.ensures.stepped) c.begin_step.ensures.drawn c.requires.steps,
+  );
+}
 
-pub returns-clause-ok : goal.returns-clause-ok
-returns-clause-ok g c = λ serial thread runs.
-    let l = c.in_ok-effect.ensures.done serial thread (begun-runs c.args.self.now c.begin_step.new.self serial thread c.begin_step.ensures.stepped runs) in
-    opcode-steps c.args.self.now c.begin_step.new.self c.do_opcode.new.self c.heed.new.self c.see_peak.new.self _ serial thread runs c.begin_step.ensures.stepped l (c.in_ok-heed.ensures.ok serial (with_frame l.frame thread) l.runs) c.see_peak.ensures
+pub returns-in-None-clause-ok : goal.returns-in-None-clause-ok
+returns-in-None-clause-ok g c = on_ok_weaker c.ask.result
+    (λ (k : (old : Shown) (serial : ℕ) (thread : Thread) → Begun old c.do_local.new.self serial thread → ShownSteps (proceed old.program serial) old c.ask.new.self).
+    λ serial thread runs. k c.args.self.now serial thread
+    (has-begun c.args.self.now c.do_local.new.self serial thread runs (c.in-None.ensures.kept ∙ c.begin_step.ensures.stepped) c.begin_step.ensures.drawn c.requires.steps))
+    c.ask.ensures.ok
+
+pub returns-in-None-clause-err : goal.returns-in-None-clause-err
+returns-in-None-clause-err g c = on_err_weaker c.ask.result
+    (λ (k : (old : Shown) (serial : ℕ) (thread : Thread) → Begun old c.do_local.new.self serial thread → ShownFails (proceed old.program serial) old c.ask.new.self).
+    λ serial thread runs. k c.args.self.now serial thread
+    (has-begun c.args.self.now c.do_local.new.self serial thread runs (c.in-None.ensures.kept ∙ c.begin_step.ensures.stepped) c.begin_step.ensures.drawn c.requires.steps))
+    c.ask.ensures.err
+
+pub returns-in-None-clause-kept : goal.returns-in-None-clause-kept
+returns-in-None-clause-kept g c = on_err_weaker c.ask.result
+    (λ (k : (old : Shown) (serial : ℕ) (thread : Thread) → Begun old c.do_local.new.self serial thread → Untouched old.machine c.ask.new.self.machine).
+    k c.args.self.now c.requires.at.0 c.requires.at.1
+    (has-begun c.args.self.now c.do_local.new.self c.requires.at.0 c.requires.at.1 c.requires.at.2 (c.in-None.ensures.kept ∙ c.begin_step.ensures.stepped) c.begin_step.ensures.drawn c.requires.steps))
+    c.ask.ensures.kept
