@@ -8,6 +8,7 @@ pub mod DumpLemmas
 pub mod TopLemmas
 pub mod VerdictLemmas
 pub mod ResultLemmas
+pub mod ReportLemmas
 pub mod SourceLemmas
 pub mod FaultLemmas
 pub mod MainLemmas

@@ -3,7 +3,7 @@ use Rattle.std.proofs.Common.{◌≡◌, ℕ, Bool, true, false, List, Option, S
 use Rattle.std.specs.Prelude.{◌⊎◌, IfSome, unwrap_or}
 use Rattle.vvp_edge.specs.Files.{Files}
 use Rattle.vvp_top.specs.declared.outcome.Outcome.{Outcome}
-use Rattle.vvp_top.specs.declared.outcome.Outcome.TheVariants.{Finish, Stop, Idle, BadWords, Refused, Spent, Trap, StoreFault, OutputFault, Memory, NoFile}
+use Rattle.vvp_top.specs.declared.outcome.Outcome.TheVariants.{Finish, Stop, Idle, Reported, BadWords, Refused, Spent, Trap, StoreFault, OutputFault, Memory, NoFile}
 use Rattle.vvp_top.specs.declared.report.Report.{Report}
 use Rattle.vvp_top.specs.Texts.{is_ended, lines_of, may_come_anytime, message_at, own_message, status_of, yields}
 use Rattle.vvp_top.specs.Whole.{Whole, whole}
@@ -16,6 +16,7 @@ pub only-bad_words : (outcome : Outcome) (status : ℕ) → status ≡ status_of
 only-bad_words Finish status is one = absurd (let never : ⊥ = omega (arith, is, one) in never)
 only-bad_words Stop status is one = absurd (let never : ⊥ = omega (arith, is, one) in never)
 only-bad_words Idle status is one = absurd (let never : ⊥ = omega (arith, is, one) in never)
+only-bad_words Reported status is one = absurd (let never : ⊥ = omega (arith, is, one) in never)
 only-bad_words BadWords status is one = refl
 only-bad_words (Refused line why) status is one = absurd (let never : ⊥ = omega (arith, is, one) in never)
 only-bad_words Spent status is one = absurd (let never : ⊥ = omega (arith, is, one) in never)
@@ -29,6 +30,7 @@ pub only-store : (outcome : Outcome) (status : ℕ) → status ≡ status_of out
 only-store Finish status is five = absurd (let never : ⊥ = omega (arith, is, five) in never)
 only-store Stop status is five = absurd (let never : ⊥ = omega (arith, is, five) in never)
 only-store Idle status is five = absurd (let never : ⊥ = omega (arith, is, five) in never)
+only-store Reported status is five = absurd (let never : ⊥ = omega (arith, is, five) in never)
 only-store BadWords status is five = absurd (let never : ⊥ = omega (arith, is, five) in never)
 only-store (Refused line why) status is five = absurd (let never : ⊥ = omega (arith, is, five) in never)
 only-store Spent status is five = absurd (let never : ⊥ = omega (arith, is, five) in never)
@@ -42,6 +44,7 @@ pub only-output : (outcome : Outcome) (status : ℕ) → status ≡ status_of ou
 only-output Finish status is six = absurd (let never : ⊥ = omega (arith, is, six) in never)
 only-output Stop status is six = absurd (let never : ⊥ = omega (arith, is, six) in never)
 only-output Idle status is six = absurd (let never : ⊥ = omega (arith, is, six) in never)
+only-output Reported status is six = absurd (let never : ⊥ = omega (arith, is, six) in never)
 only-output BadWords status is six = absurd (let never : ⊥ = omega (arith, is, six) in never)
 only-output (Refused line why) status is six = absurd (let never : ⊥ = omega (arith, is, six) in never)
 only-output Spent status is six = absurd (let never : ⊥ = omega (arith, is, six) in never)
@@ -91,6 +94,7 @@ complete-by : (outcome : Outcome) (status : ℕ) (choice : Bool) → yields outc
 complete-by Finish status choice so is store out = inr refl
 complete-by Stop status choice so is store out = inr refl
 complete-by Idle status choice so is store out = inr refl
+complete-by Reported status choice so is store out = inr refl
 complete-by BadWords status choice so is store out = inr refl
 complete-by (Refused line why) status choice so is store out = inr refl
 complete-by Spent status choice so is store out = inr refl
@@ -133,6 +137,7 @@ not-own : (outcome : Outcome) → own_message (status_of outcome) ≡ None → y
 not-own Finish none = refl
 not-own Stop none = refl
 not-own Idle none = refl
+not-own Reported none = refl
 not-own BadWords none = refl
 not-own (Refused line why) none = refl
 not-own Spent none = refl

@@ -8,7 +8,7 @@ use Rattle.vvp_top.specs.declared.outcome.Outcome.{Outcome}
 use Rattle.vvp_top.specs.declared.outcome.Outcome.TheVariants.{BadWords, Memory, OutputFault, StoreFault}
 use Rattle.vvp_top.specs.declared.report.Report.{Report}
 use Rattle.vvp_top.specs.Texts.{is_ended, yields}
-use Rattle.vvp_top.specs.Whole.{Whole, silent, whole, whole_of_source, whole_of_work}
+use Rattle.vvp_top.specs.Whole.{Whole, silent, source_of, whole, whole_of_found, whole_of_source}
 use Rattle.vvp_top.proofs.MainLemmas.{Cut, Did}
 use Rattle.vvp_top.proofs.TopLemmas.{does-nothing, ended-stays, if-told, whole-said}
 
@@ -63,38 +63,38 @@ rose-later before mid now later rose = omega (arith, later, rose)
 
 -- ---- the run of a source
 
-source-said : (words : List (List ℕ)) (e : Entries) (m : Files) (source bytes : List ℕ) → entries words ≡ Some e → source ≡ bytes → ((d : Entries) → whole_of_work d e.work m ≡ whole_of_source d bytes)
+source-said : (words : List (List ℕ)) (e : Entries) (m : Files) (source bytes : List ℕ) → entries words ≡ Some e → source ≡ bytes → (source_of e.work m ≡ Some bytes)
     → whole words m ≡ whole_of_source e source
-source-said words e m source bytes some read is = whole-said words e m some ∙ is e ∙ ap (whole_of_source e) (sym read)
+source-said words e m source bytes some read is = whole-said words e m some ∙ ap (whole_of_found e) is ∙ ap (whole_of_source e) (sym read)
 
 pub run-did : (words : List (List ℕ)) (e : Entries) (source bytes : List ℕ) (report : Report) (held held' : Option (List ℕ)) (files mid files' : Option Files) → entries words ≡ Some e → source ≡ bytes
-    → IfSome files (λ m. (d : Entries) → whole_of_work d e.work m ≡ whole_of_source d bytes) → mid ≡ files → Did report held held' mid files' (whole_of_source e source)
+    → IfSome files (λ m. source_of e.work m ≡ Some bytes) → mid ≡ files → Did report held held' mid files' (whole_of_source e source)
     → IfSome files (λ m. Did report held held' files files' (whole words m))
 run-did words e source bytes report held held' files mid files' some read is same did =
-    if-told files (λ m. (d : Entries) → whole_of_work d e.work m ≡ whole_of_source d bytes) (λ m. Did report held held' files files' (whole words m))
+    if-told files (λ m. source_of e.work m ≡ Some bytes) (λ m. Did report held held' files files' (whole words m))
     (λ m here. subst (λ (w : Whole). Did report held held' files files' w) (sym (source-said words e m source bytes some read here))
     (subst (λ (f : Option Files). Did report held held' f files' (whole_of_source e source)) same did)) is
 
 pub run-cut : (words : List (List ℕ)) (e : Entries) (source bytes : List ℕ) (held held' : Option (List ℕ)) (files mid files' : Option Files) → entries words ≡ Some e → source ≡ bytes
-    → IfSome files (λ m. (d : Entries) → whole_of_work d e.work m ≡ whole_of_source d bytes) → mid ≡ files → Cut held held' mid files' (whole_of_source e source)
+    → IfSome files (λ m. source_of e.work m ≡ Some bytes) → mid ≡ files → Cut held held' mid files' (whole_of_source e source)
     → IfSome files (λ m. Cut held held' files files' (whole words m))
 run-cut words e source bytes held held' files mid files' some read is same cut =
-    if-told files (λ m. (d : Entries) → whole_of_work d e.work m ≡ whole_of_source d bytes) (λ m. Cut held held' files files' (whole words m))
+    if-told files (λ m. source_of e.work m ≡ Some bytes) (λ m. Cut held held' files files' (whole words m))
     (λ m here. subst (λ (w : Whole). Cut held held' files files' w) (sym (source-said words e m source bytes some read here))
     (subst (λ (f : Option Files). Cut held held' f files' (whole_of_source e source)) same cut)) is
 
 pub run-refused : (words : List (List ℕ)) (e : Entries) (source bytes : List ℕ) (outcome : Outcome) (report : Report) (held held' : Option (List ℕ)) (files mid files' : Option Files) → entries words ≡ Some e → source ≡ bytes
-    → IfSome files (λ m. (d : Entries) → whole_of_work d e.work m ≡ whole_of_source d bytes) → mid ≡ files → (whole_of_source e source ≡ silent outcome) × (held' ≡ held) × (files' ≡ mid)
+    → IfSome files (λ m. source_of e.work m ≡ Some bytes) → mid ≡ files → (whole_of_source e source ≡ silent outcome) × (held' ≡ held) × (files' ≡ mid)
     → report ≡ record { outcome = outcome; counts = None } → IfSome files (λ m. Did report held held' files files' (whole words m))
 run-refused words e source bytes outcome report held held' files mid files' some read is same refused says =
-    if-told files (λ m. (d : Entries) → whole_of_work d e.work m ≡ whole_of_source d bytes) (λ m. Did report held held' files files' (whole words m))
+    if-told files (λ m. source_of e.work m ≡ Some bytes) (λ m. Did report held held' files files' (whole words m))
     (λ m here. does-nothing (whole words m) outcome report held held' files files' (source-said words e m source bytes some read here ∙ refused.0) says refused.1 (refused.2 ∙ same)) is
 
 -- ---- no source
 
 pub source-refused : (words : List (List ℕ)) (e : Entries) (outcome : Outcome) (report : Report) (held : Option (List ℕ)) (files files' : Option Files) → entries words ≡ Some e
-    → IfSome files (λ m. (d : Entries) → whole_of_work d e.work m ≡ silent outcome) → files' ≡ files → report ≡ record { outcome = outcome; counts = None }
+    → IfSome files (λ m. (d : Entries) → whole_of_found d (source_of e.work m) ≡ silent outcome) → files' ≡ files → report ≡ record { outcome = outcome; counts = None }
     → IfSome files (λ m. Did report held held files files' (whole words m))
 source-refused words e outcome report held files files' some is same says =
-    if-told files (λ m. (d : Entries) → whole_of_work d e.work m ≡ silent outcome) (λ m. Did report held held files files' (whole words m))
+    if-told files (λ m. (d : Entries) → whole_of_found d (source_of e.work m) ≡ silent outcome) (λ m. Did report held held files files' (whole words m))
     (λ m here. does-nothing (whole words m) outcome report held held files files' (whole-said words e m some ∙ here e) says refl same) is

@@ -12,11 +12,11 @@ use Rattle.vvp_edge.specs.Bytes.{TellsAtMost}
 use Rattle.vvp_edge.specs.Files.{Files}
 use Rattle.vvp_words.specs.Entries.{Entries, entries}
 use Rattle.vvp_top.specs.declared.outcome.Outcome.{Outcome}
-use Rattle.vvp_top.specs.declared.outcome.Outcome.TheVariants.{Finish, Stop, Idle, BadWords, Refused, Spent, Trap, StoreFault, OutputFault, Memory, NoFile}
+use Rattle.vvp_top.specs.declared.outcome.Outcome.TheVariants.{Finish, Stop, Idle, Reported, BadWords, Refused, Spent, Trap, StoreFault, OutputFault, Memory, NoFile}
 use Rattle.vvp_top.specs.declared.report.Counts.{Counts}
 use Rattle.vvp_top.specs.declared.report.Report.{Report}
 use Rattle.vvp_top.specs.Texts.{counts_text, is_ended, line_of, lines_of, may_come_anytime, own_message, status_of, yields}
-use Rattle.vvp_top.specs.Whole.{Whole, counts_of, ended, refused, silent, whole, whole_of_entries, whole_of_machine, whole_of_program, whole_of_source, whole_of_verdict, whole_of_work}
+use Rattle.vvp_top.specs.Whole.{Whole, counts_of, ended, refused, silent, source_of, whole, whole_of_entries, whole_of_found, whole_of_machine, whole_of_program, whole_of_run, whole_of_verdict}
 use Rattle.vvp_top.specs.Ends.{CutFiles, CutShort, HandedOver, LeavesFiles}
 use Rattle.vvp_top.specs.Delivery.{IsCut, IsDone}
 use Rattle.vvp_top.specs.Refusals.{IsRefusal}
@@ -24,10 +24,10 @@ use Rattle.vvp_top.proofs.DeliveryLemmas.{append_known-nil, tells-same}
 
 -- ---- nothing is handed over
 
-tells-left : (now before : Option Files) → now ≡ before → TellsAtMost now before
+pub tells-left : (now before : Option Files) → now ≡ before → TellsAtMost now before
 tells-left now before is = subst (λ (f : Option Files). TellsAtMost now f) is (tells-same now)
 
-leaves-none : (now before : Option Files) → now ≡ before → LeavesFiles None before now
+pub leaves-none : (now before : Option Files) → now ≡ before → LeavesFiles None before now
 leaves-none now None is = tells-left now None is
 leaves-none now (Some files) is = tells-left now (Some files) is
 
@@ -50,7 +50,7 @@ pub whole-refused : (words : List (List ℕ)) (files : Files) → entries words 
 whole-refused words files none = ap (λ (e : Option Entries). whole_of_entries e files) none
 
 -- words that are accepted
-pub whole-said : (words : List (List ℕ)) (e : Entries) (files : Files) → entries words ≡ Some e → whole words files ≡ whole_of_work e e.work files
+pub whole-said : (words : List (List ℕ)) (e : Entries) (files : Files) → entries words ≡ Some e → whole words files ≡ whole_of_found e (source_of e.work files)
 whole-said words e files some = ap (λ (o : Option Entries). whole_of_entries o files) some
 
 -- in every state of the files, if they are told
@@ -82,14 +82,14 @@ report-is stats machine shown outcome counts ending o e c same now steps peak =
         ∙ ap (λ (x : ℕ). let c : Option Counts = Some (record { time = b.state.pending.now; steps = b.steps; peak = x }) in c) p
 
 -- the run of the program of a source
-pub source-runs : (e : Entries) (source : List ℕ) (program : Program) → verdict.verdict source ≡ Ok program → whole_of_source e source ≡ whole_of_machine e.stats (run_of program e.order e.budget)
+pub source-runs : (e : Entries) (source : List ℕ) (program : Program) → verdict.verdict source ≡ Ok program → whole_of_run e source ≡ whole_of_machine e.stats (run_of program e.order e.budget)
 unfolding whole_of_program
 source-runs e source program is = ap (whole_of_verdict e) is
 
 -- with what was handed over so far, where the run is stopped
 pub source-cut : (e : Entries) (source : List ℕ) (program : Program) (engine : Shown) (held held' : Option (List ℕ)) (files files' : Option Files) → verdict.verdict source ≡ Ok program → engine.program ≡ program → engine.order ≡ e.order
     → in_turn_of_machine (start_of program) ≡ engine.machine → ((machine : Machine) → in_turn_of_machine machine ≡ engine.machine → IsCut (run_from engine.program engine.order e.budget machine) held files held' files')
-    → CutShort (whole_of_source e source).output held held' × CutFiles (whole_of_source e source).dump files files'
+    → CutShort (whole_of_run e source).output held held' × CutFiles (whole_of_run e source).dump files files'
 source-cut e source program engine held held' files files' is programs orders start cut =
     let here : IsCut (run_of program e.order e.budget) held files held' files' =
     subst (λ (p : Program). IsCut (run_from p e.order e.budget (start_of program)) held files held' files') programs
@@ -102,7 +102,7 @@ pub source-done : (e : Entries) (source : List ℕ) (program : Program) (engine 
     → ((machine : Machine) → in_turn_of_machine machine ≡ engine.machine → IsDone (run_from engine.program engine.order e.budget machine) held files end held' files')
     → outcome ≡ ended ending → ending ≡ end.machine.ending → counts ≡ counts_of e.stats end.machine
     → let report : Report = record { outcome = outcome; counts = counts } in
-    (report ≡ (whole_of_source e source).report) × HandedOver (whole_of_source e source).output held held' × LeavesFiles (whole_of_source e source).dump files files'
+    (report ≡ (whole_of_run e source).report) × HandedOver (whole_of_run e source).output held held' × LeavesFiles (whole_of_run e source).dump files files'
 source-done e source program engine end outcome counts ending held held' files files' is programs orders start done o n c =
     let machine : Machine = run_of program e.order e.budget in
     let here : IsDone machine held files end held' files' =
@@ -113,7 +113,7 @@ source-done e source program engine end outcome counts ending held held' files f
     (report-is e.stats machine end outcome counts ending o n c here.ending here.time here.steps here.peak, here.output, here.dump)
 
 -- a source that is refused
-pub refusal-silent : (e : Entries) (source : List ℕ) (outcome : Outcome) → IsRefusal outcome (verdict.verdict source) → yields outcome ≡ false → whole_of_source e source ≡ silent outcome
+pub refusal-silent : (e : Entries) (source : List ℕ) (outcome : Outcome) → IsRefusal outcome (verdict.verdict source) → yields outcome ≡ false → whole_of_run e source ≡ silent outcome
 refusal-silent e source outcome (inl memory) none = absurd (let never : ⊥ = let is : yields Memory ≡ false = ap yields (sym memory) ∙ none in cc in never)
 refusal-silent e source outcome (inr (why, is, so)) none = ap (whole_of_verdict e) is ∙ ap silent (sym so)
 
@@ -128,6 +128,7 @@ pub yields-status : (outcome : Outcome) → may_come_anytime (status_of outcome)
 yields-status Finish = refl
 yields-status Stop = refl
 yields-status Idle = refl
+yields-status Reported = refl
 yields-status BadWords = refl
 yields-status (Refused line why) = refl
 yields-status Spent = refl
@@ -142,6 +143,7 @@ pub ended-stays : (outcome : Outcome) → is_ended outcome ≡ true → yields o
 ended-stays Finish is = refl
 ended-stays Stop is = refl
 ended-stays Idle is = refl
+ended-stays Reported is = refl
 ended-stays BadWords is = refl
 ended-stays (Refused line why) is = refl
 ended-stays Spent is = refl
@@ -156,6 +158,7 @@ pub own-is : (outcome : Outcome) (text : List ℕ) → own_message (status_of ou
 own-is Finish text is = absurd (let none : ⊥ = cc in none)
 own-is Stop text is = absurd (let none : ⊥ = cc in none)
 own-is Idle text is = absurd (let none : ⊥ = cc in none)
+own-is Reported text is = absurd (let none : ⊥ = cc in none)
 own-is BadWords text is = (let same : line_of BadWords ≡ text = cc in same, refl)
 own-is (Refused line why) text is = absurd (let none : ⊥ = cc in none)
 own-is Spent text is = absurd (let none : ⊥ = cc in none)

@@ -19,10 +19,10 @@ use Rattle.vvp_top.specs.Refusals.{IsRefusal}
 pub most_source : MOST_SOURCE ≡ 2 ^ 26
 most_source = refl
 
-lt-test : (a b : ℕ) → a < b → nat_lt a b ≡ true
+pub lt-test : (a b : ℕ) → a < b → nat_lt a b ≡ true
 lt-test a b lt = grind (arith, nat_tests)
 
-le-test : (a b : ℕ) → b ≤ a → nat_lt a b ≡ false
+pub le-test : (a b : ℕ) → b ≤ a → nat_lt a b ≡ false
 le-test a b le = grind (arith, nat_tests)
 
 pub verdict-large : (file : List ℕ) (most : ℕ) → most ≡ 2 ^ 26 → most < length file → verdict file ≡ Err TooLarge

@@ -1,4 +1,5 @@
 pub mod Texts
+pub mod Toggles
 pub mod Whole
 pub mod Ends
 pub mod Refusals

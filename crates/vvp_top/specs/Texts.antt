@@ -9,10 +9,12 @@ use Rattle.vvp_lex.specs.declared.types.FormKind.{FormKind}
 use Rattle.vvp_lex.specs.declared.types.FormKind.TheVariants as form
 use Rattle.sym_link.specs.declared.fault.LinkKind.{LinkKind}
 use Rattle.sym_link.specs.declared.fault.LinkKind.TheVariants as link
+use Rattle.vcd_read.specs.declared.types.VcdKind.{VcdKind}
+use Rattle.vcd_read.specs.declared.types.VcdKind.TheVariants as dump
 use Rattle.vvp_top.specs.declared.refusal.Why.{Why}
 use Rattle.vvp_top.specs.declared.refusal.Why.TheVariants as why
 use Rattle.vvp_top.specs.declared.outcome.Outcome.{Outcome}
-use Rattle.vvp_top.specs.declared.outcome.Outcome.TheVariants.{Finish, Stop, Idle, BadWords, Refused, Spent, Trap, StoreFault, OutputFault, Memory, NoFile}
+use Rattle.vvp_top.specs.declared.outcome.Outcome.TheVariants.{Finish, Stop, Idle, Reported, BadWords, Refused, Spent, Trap, StoreFault, OutputFault, Memory, NoFile}
 use Rattle.vvp_top.specs.declared.report.Counts.{Counts}
 use Rattle.vvp_top.specs.declared.report.Report.{Report}
 
@@ -23,6 +25,7 @@ abbrev pub status_of : Outcome → ℕ
 status_of Finish = 0
 status_of Stop = 0
 status_of Idle = 0
+status_of Reported = 0
 status_of BadWords = 1
 status_of (Refused line why) = 2
 status_of Spent = 3
@@ -40,17 +43,19 @@ yields Memory = true
 yields Finish = false
 yields Stop = false
 yields Idle = false
+yields Reported = false
 yields BadWords = false
 yields (Refused line why) = false
 yields Spent = false
 yields (Trap kind address) = false
 yields NoFile = false
 
--- the end of a run, or of its budget
+-- the end of a run, of its budget, or of a report
 abbrev pub is_ended : Outcome → Bool
 is_ended Finish = true
 is_ended Stop = true
 is_ended Idle = true
+is_ended Reported = true
 is_ended Spent = true
 is_ended (Trap kind address) = true
 is_ended BadWords = false
@@ -113,12 +118,22 @@ link_text link.UnknownTask = codes "unknown task"
 link_text link.BadArguments = codes "bad arguments"
 link_text link.LimitReached = codes "limit reached"
 
+-- the text of a fault of a dump
+abbrev pub dump_text : VcdKind → List ℕ
+dump_text dump.BadByte = codes "bad byte"
+dump_text dump.BadWord = codes "bad word"
+dump_text dump.TooWide = codes "too wide"
+dump_text dump.UnknownCode = codes "unknown code"
+dump_text dump.TimeBack = codes "time back"
+dump_text dump.OpenEnd = codes "open end"
+
 -- the text of a refusal
 abbrev pub why_text : Why → List ℕ
 why_text why.TooLarge = codes "file too large"
 why_text (why.Lexical kind) = lexical_text kind
 why_text (why.Form kind) = form_text kind
 why_text (why.Link kind) = link_text kind
+why_text (why.Dump kind) = dump_text kind
 
 -- ---- lines
 
@@ -133,6 +148,7 @@ fixed_line NoFile = codes "vvp: no such file\n"
 fixed_line Finish = []
 fixed_line Stop = []
 fixed_line Idle = []
+fixed_line Reported = []
 fixed_line (Refused line why) = []
 fixed_line (Trap kind address) = []
 
@@ -149,6 +165,7 @@ line_of NoFile = fixed_line NoFile
 line_of Finish = []
 line_of Stop = []
 line_of Idle = []
+line_of Reported = []
 
 -- the end of a run, as the line of its counts names it
 abbrev pub ending_name : Outcome → List ℕ
@@ -157,6 +174,7 @@ ending_name Stop = codes "stop"
 ending_name Idle = codes "idle"
 ending_name Spent = codes "spent"
 ending_name (Trap kind address) = codes "trap"
+ending_name Reported = []
 ending_name BadWords = []
 ending_name (Refused line why) = []
 ending_name StoreFault = []

@@ -1,5 +1,5 @@
 -- What the program does, told by its words and its files alone.
-use Rattle.std.specs.Prelude.{ℕ, Bool, true, false, List, [], Option, Some, None, Result, Ok, Err}
+use Rattle.std.specs.Prelude.{ℕ, ◌^◌, Bool, true, false, nat_lt, List, [], length, if◌then◌else◌, Option, Some, None, Result, Ok, Err}
 use Rattle.std.specs.FinMap.{get, insert}
 use Rattle.sym_link.specs.declared.program.Program.{Program}
 use Rattle.sym_link.specs.Verdict as verdict
@@ -8,6 +8,8 @@ use Rattle.sim_core.specs.declared.ending.Ending.{Ending}
 use Rattle.sim_core.specs.declared.ending.Ending.TheVariants as run
 use Rattle.sim_core.specs.Machine.{Machine}
 use Rattle.sim_core.specs.Start.{run as run_of}
+use Rattle.vcd_read.specs.Reading.{Fault, reading}
+use Rattle.vcd_read.specs.declared.types.Trace.{Trace}
 use Rattle.vvp_edge.specs.Files.{Files}
 use Rattle.vvp_words.specs.Entries.{Entries, Work, entries}
 use Rattle.vvp_words.specs.Entries as words
@@ -15,9 +17,10 @@ use Rattle.work_gen.specs.Workload.{workload_text}
 use Rattle.vvp_top.specs.declared.refusal.Why.{Why}
 use Rattle.vvp_top.specs.declared.refusal.Why.TheVariants as why
 use Rattle.vvp_top.specs.declared.outcome.Outcome.{Outcome}
-use Rattle.vvp_top.specs.declared.outcome.Outcome.TheVariants.{Finish, Stop, Idle, BadWords, Refused, Spent, Trap, NoFile}
+use Rattle.vvp_top.specs.declared.outcome.Outcome.TheVariants.{Finish, Stop, Idle, Reported, BadWords, Refused, Spent, Trap, NoFile}
 use Rattle.vvp_top.specs.declared.report.Counts.{Counts}
 use Rattle.vvp_top.specs.declared.report.Report.{Report}
+use Rattle.vvp_top.specs.Toggles.{toggle_text}
 
 -- a dump: the name of its file, and its bytes
 pub record Dump : Type 0 where
@@ -71,7 +74,7 @@ whole_of_machine stats machine = record {
   dump = dump_of machine;
 }
 
--- ---- a source
+-- ---- the run of a file
 
 -- why a file has no program
 abbrev pub why_of : verdict.Why → Why
@@ -93,24 +96,52 @@ abbrev pub whole_of_verdict : Entries → Result Program verdict.Why → Whole
 whole_of_verdict e (Ok program) = whole_of_program e program
 whole_of_verdict e (Err w) = silent (refused w)
 
--- for a source of these bytes
+-- the same, for a file of these bytes
+abbrev pub whole_of_run : Entries → List ℕ → Whole
+whole_of_run e bytes = whole_of_verdict e (verdict.verdict bytes)
+
+-- ---- a report
+
+-- nothing is run, and this is put out
+abbrev pub reported : List ℕ → Whole
+reported text = record { report = record { outcome = Reported; counts = None }; output = text; dump = None }
+
+-- the report on what a dump says, or the first fault of a file that is no dump
+abbrev pub whole_of_reading : Result Trace Fault → Whole
+whole_of_reading (Ok trace) = reported (toggle_text trace)
+whole_of_reading (Err fault) = silent (Refused fault.line (why.Dump fault.kind))
+
+-- the report on a dump of these bytes, if they are one
+unfoldable pub whole_of_dump : List ℕ → Whole
+whole_of_dump bytes = if nat_lt (2 ^ 26) (length bytes) then silent (Refused 0 why.TooLarge) else whole_of_reading (reading bytes)
+
+-- ---- what the words say
+
+-- the source of a work: the bytes that stand under a name, if any do, or the text of a workload
+abbrev pub source_of : Work → Files → Option (List ℕ)
+source_of (words.File name) files = get files name
+source_of (words.Workload size) files = Some (workload_text size)
+source_of (words.Toggles name) files = get files name
+
+-- what is done with a source of these bytes
+abbrev pub whole_of_work : Work → Entries → List ℕ → Whole
+whole_of_work (words.File name) e bytes = whole_of_run e bytes
+whole_of_work (words.Workload size) e bytes = whole_of_run e bytes
+whole_of_work (words.Toggles name) e bytes = whole_of_dump bytes
+
+-- the same, as the words say
 abbrev pub whole_of_source : Entries → List ℕ → Whole
-whole_of_source e bytes = whole_of_verdict e (verdict.verdict bytes)
+whole_of_source e bytes = whole_of_work e.work e bytes
 
--- for the bytes that stand under a name, if any do
-abbrev pub whole_of_file : Entries → Option (List ℕ) → Whole
-whole_of_file e None = silent NoFile
-whole_of_file e (Some bytes) = whole_of_source e bytes
-
--- for a file, or for the text of a workload
-abbrev pub whole_of_work : Entries → Work → Files → Whole
-whole_of_work e (words.File name) files = whole_of_file e (get files name)
-whole_of_work e (words.Workload size) files = whole_of_source e (workload_text size)
+-- the same, if there is a source
+abbrev pub whole_of_found : Entries → Option (List ℕ) → Whole
+whole_of_found e None = silent NoFile
+whole_of_found e (Some bytes) = whole_of_source e bytes
 
 -- for words that say this
 abbrev pub whole_of_entries : Option Entries → Files → Whole
 whole_of_entries None files = silent BadWords
-whole_of_entries (Some e) files = whole_of_work e e.work files
+whole_of_entries (Some e) files = whole_of_found e (source_of e.work files)
 
 -- what the call does on these words and files
 abbrev pub whole : List (List ℕ) → Files → Whole

@@ -10,6 +10,7 @@ mod pieces;
 mod refusal;
 mod report;
 mod source;
+mod toggles;
 mod top;
 mod verdict;
 

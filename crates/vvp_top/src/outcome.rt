@@ -19,10 +19,12 @@ pub enum Outcome {
     Stop,
     /// The run ended with nothing left to do.
     Idle,
+    /// Nothing was run: the report on a dump was put out.
+    Reported,
     /// The words aren't those of a call of the program.
     BadWords,
-    /// The file has no program. `line` is that on which its first faulty statement begins, counted from 1, or 0 where the file
-    /// as a whole is refused.
+    /// The file has no program, or is no dump. `line` is that on which its first faulty statement or word begins, counted from 1,
+    /// or 0 where the file as a whole is refused.
     Refused { line: u32, why: Why },
     /// The run didn't end within its budget of steps.
     Spent,
@@ -60,7 +62,7 @@ impl Outcome {
         ensures { result ≡ status_of self }
     {
         match self {
-            Outcome::Finish | Outcome::Stop | Outcome::Idle => 0,
+            Outcome::Finish | Outcome::Stop | Outcome::Idle | Outcome::Reported => 0,
             Outcome::BadWords => 1,
             Outcome::Refused { .. } => 2,
             Outcome::Spent => 3,

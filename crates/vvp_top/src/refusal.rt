@@ -1,12 +1,13 @@
-//! Why a file has no program.
+//! Why a file is refused.
 
 ghost use Rattle.std.specs.Prelude.{◌≡◌};
-ghost use Rattle.vvp_top.specs.Texts.{form_text, lexical_text, link_text, why_text};
+ghost use Rattle.vvp_top.specs.Texts.{dump_text, form_text, lexical_text, link_text, why_text};
 
 use sym_link::LinkKind;
+use vcd_read::VcdKind;
 use vvp_lex::{FormKind, LexKind};
 
-/// Why a file has no program.
+/// Why a file has no program, or is no dump.
 #[derive(Clone, Copy, Debug, PartialEq, Eq)]
 pub enum Why {
     /// It has more bytes than a source may have.
@@ -17,6 +18,8 @@ pub enum Why {
     Form(FormKind),
     /// A statement breaks a link rule.
     Link(LinkKind),
+    /// It is no dump.
+    Dump(VcdKind),
 }
 
 // The text of a lexical fault.
@@ -70,6 +73,20 @@ fn link_text(kind: LinkKind) -> &'static [u8]
     }
 }
 
+// The text of a fault of a dump.
+fn dump_text(kind: VcdKind) -> &'static [u8]
+    ensures { result.now ≡ dump_text kind }
+{
+    match kind {
+        VcdKind::BadByte => b"bad byte",
+        VcdKind::BadWord => b"bad word",
+        VcdKind::TooWide => b"too wide",
+        VcdKind::UnknownCode => b"unknown code",
+        VcdKind::TimeBack => b"time back",
+        VcdKind::OpenEnd => b"open end",
+    }
+}
+
 impl Why {
     /// Its text, as the program says it.
     pub(crate) fn text(self) -> &'static [u8]
@@ -80,6 +97,7 @@ impl Why {
             Why::Lexical(kind) => lexical_text(kind),
             Why::Form(kind) => form_text(kind),
             Why::Link(kind) => link_text(kind),
+            Why::Dump(kind) => dump_text(kind),
         }
     }
 }

@@ -6,17 +6,18 @@ ghost use Rattle.vvp_words.specs.Entries.{entries};
 ghost use Rattle.vvp_words.specs.Seen.{seen};
 ghost use Rattle.vvp_top.specs.Ends.{CutFiles, CutShort, HandedOver, LeavesFiles, Says};
 ghost use Rattle.vvp_top.specs.Texts.{is_ended, may_come_anytime, message_at, own_message, status_of, yields};
-ghost use Rattle.vvp_top.specs.Whole.{counts_of, ended, silent, whole, whole_of_source};
+ghost use Rattle.vvp_top.specs.Whole.{counts_of, ended, silent, whole, whole_of_run, whole_of_source};
 
 use crate::delivery::run_engine;
 use crate::load::{Runner, load};
 use crate::source::source_of;
+use crate::toggles::report_on;
 use crate::verdict::program_of;
 use crate::{Counts, Outcome, Report};
 use sim_core::Ending;
 use std::alloc::Global;
 use vvp_edge::{Sink, Store};
-use vvp_words::{Entries, WordsFault, read_words};
+use vvp_words::{Entries, WordsFault, Work, read_words};
 
 // How a run ended, or that its budget of steps is spent.
 fn ended(ending: Option<Ending>) -> Outcome
@@ -55,11 +56,11 @@ fn run_source<S: Store, K: Sink>(
     store: &mut S,
     out: &mut K,
 ) -> Result<Report, Outcome>
-    ensures whole { IfOk result (λ report. let w = whole_of_source (seen entries.now) source.now in
+    ensures whole { IfOk result (λ report. let w = whole_of_run (seen entries.now) source.now in
         (report ≡ w.report) × HandedOver w.output (K.held out.old) (K.held out.new) × LeavesFiles w.dump (S.files store.old) (S.files store.new)) }
-    ensures cut { IfErr result (λ outcome. yields outcome ≡ true → let w = whole_of_source (seen entries.now) source.now in
+    ensures cut { IfErr result (λ outcome. yields outcome ≡ true → let w = whole_of_run (seen entries.now) source.now in
         CutShort w.output (K.held out.old) (K.held out.new) × CutFiles w.dump (S.files store.old) (S.files store.new)) }
-    ensures refused { IfErr result (λ outcome. yields outcome ≡ false → (whole_of_source (seen entries.now) source.now ≡ silent outcome)
+    ensures refused { IfErr result (λ outcome. yields outcome ≡ false → (whole_of_run (seen entries.now) source.now ≡ silent outcome)
         × (K.held out.new ≡ K.held out.old) × (S.files store.new ≡ S.files store.old)) }
     ensures store_fault { IfErr result (λ outcome. outcome ≡ Outcome.StoreFault → Rose (S.faults store.old) (S.faults store.new)) }
     ensures output_fault { IfErr result (λ outcome. outcome ≡ Outcome.OutputFault → Rose (K.faults out.old) (K.faults out.new)) }
@@ -81,6 +82,32 @@ fn run_source<S: Store, K: Sink>(
             outcome: ended(ending),
             counts: counts_of(&engine, entries.stats),
         }),
+    }
+}
+
+// Does with a source what the words say: runs its program, or reports on it as on a dump.
+fn work_on<S: Store, K: Sink>(
+    alloc: Global,
+    source: &[u8],
+    entries: &Entries,
+    store: &mut S,
+    out: &mut K,
+) -> Result<Report, Outcome>
+    ensures whole { IfOk result (λ report. let w = whole_of_source (seen entries.now) source.now in
+        (report ≡ w.report) × HandedOver w.output (K.held out.old) (K.held out.new) × LeavesFiles w.dump (S.files store.old) (S.files store.new)) }
+    ensures cut { IfErr result (λ outcome. yields outcome ≡ true → let w = whole_of_source (seen entries.now) source.now in
+        CutShort w.output (K.held out.old) (K.held out.new) × CutFiles w.dump (S.files store.old) (S.files store.new)) }
+    ensures refused { IfErr result (λ outcome. yields outcome ≡ false → (whole_of_source (seen entries.now) source.now ≡ silent outcome)
+        × (K.held out.new ≡ K.held out.old) × (S.files store.new ≡ S.files store.old)) }
+    ensures store_fault { IfErr result (λ outcome. outcome ≡ Outcome.StoreFault → Rose (S.faults store.old) (S.faults store.new)) }
+    ensures output_fault { IfErr result (λ outcome. outcome ≡ Outcome.OutputFault → Rose (K.faults out.old) (K.faults out.new)) }
+    ensures own { IfErr result (λ outcome. outcome ≡ Outcome.BadWords → ⊥) }
+    ensures run { IfOk result (λ report. is_ended report.outcome ≡ true) }
+    ensures later { S.faults store.old ≤ S.faults store.new }
+{
+    match entries.work {
+        Work::File(_) | Work::Workload(_) => run_source(alloc, source, entries, store, out),
+        Work::Toggles(_) => report_on(alloc, source, out),
     }
 }
 
@@ -106,14 +133,15 @@ fn perform<S: Store, K: Sink>(alloc: Global, words: &[String], store: &mut S, ou
         Err(outcome) => return Report::bare(outcome),
         Ok(source) => source,
     };
-    match run_source(alloc, &source, &entries, store, out) {
+    match work_on(alloc, &source, &entries, store, out) {
         Err(outcome) => Report::bare(outcome),
         Ok(report) => report,
     }
 }
 
 /// The program without its runtime: runs the file, or the workload, that the words name, hands over its output and its dump while it
-/// runs, and says the lines of its status. Answers the status.
+/// runs, and says the lines of its status. In the mode `toggles` it runs nothing, and puts out how often the variables of a dump rise
+/// and fall. Answers the status.
 ///
 /// `words` leaves out the program's name. The statuses are those of `Outcome`. In the mode `workload` no file is asked for.
 pub fn vvp_main<S: Store, K: Sink, M: Sink>(

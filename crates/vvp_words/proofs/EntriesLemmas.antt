@@ -4,7 +4,7 @@ use Rattle.std.specs.Prelude.{option_map, option_and_then}
 use Rattle.std.specs.Str.{bytes_eq}
 use Rattle.vvp_words.specs.Command.{Given, given}
 use Rattle.vvp_words.specs.Decimal.{decimal_of}
-use Rattle.vvp_words.specs.Entries.{Entries, Work, File, Workload, entries, entries_of, number_or, work_of}
+use Rattle.vvp_words.specs.Entries.{Entries, Work, File, Workload, Toggles, entries, entries_of, number_or, takes, work_given, work_of}
 
 abbrev pub work_as : Work → Option Work
 work_as work = Some work
@@ -24,25 +24,47 @@ pub work-none : (operand : List ℕ) → work_as (File operand) ≡ work_of None
 unfolding work_of
 work-none operand = refl
 
+abbrev numbered : List ℕ → Option Work
+numbered operand = option_map Workload (decimal_of 4 1 2000 operand)
+
+-- by which of the modes it is
+abbrev chosen : Bool → Bool → Bool → List ℕ → Option Work
+chosen run load toggles operand = cond run (work_as (File operand)) (cond load (numbered operand) (cond toggles (work_as (Toggles operand)) no_work))
+
+work-chosen : (mode operand : List ℕ) → chosen (bytes_eq mode (codes "run")) (bytes_eq mode (codes "workload")) (bytes_eq mode (codes "toggles")) operand ≡ work_of (Some mode) operand
+unfolding work_of
+work-chosen mode operand = refl
+
 pub work-run : (mode operand : List ℕ) → bytes_eq mode (codes "run") ≡ true → work_as (File operand) ≡ work_of (Some mode) operand
-unfolding work_of
-work-run mode operand is =
-    sym (ap (λ b. cond b (work_as (File operand)) (cond (bytes_eq mode (codes "workload")) (option_map Workload (decimal_of 4 1 2000 operand)) None)) is)
+work-run mode operand run =
+    ap (λ b. chosen b (bytes_eq mode (codes "workload")) (bytes_eq mode (codes "toggles")) operand) (sym run) ∙ work-chosen mode operand
 
-pub work-load : (mode operand : List ℕ) → bytes_eq mode (codes "run") ≡ false → bytes_eq mode (codes "workload") ≡ true
-    → option_map Workload (decimal_of 4 1 2000 operand) ≡ work_of (Some mode) operand
-unfolding work_of
-work-load mode operand other is =
-    let numbered : Option Work = option_map Workload (decimal_of 4 1 2000 operand) in
-    sym (ap (λ b. cond b (work_as (File operand)) (cond (bytes_eq mode (codes "workload")) numbered None)) other
-    ∙ ap (λ b. cond b numbered None) is)
+pub work-load : (mode operand : List ℕ) → bytes_eq mode (codes "run") ≡ false → bytes_eq mode (codes "workload") ≡ true → numbered operand ≡ work_of (Some mode) operand
+work-load mode operand run load =
+    ap (λ b. chosen false b (bytes_eq mode (codes "toggles")) operand) (sym load)
+    ∙ ap (λ b. chosen b (bytes_eq mode (codes "workload")) (bytes_eq mode (codes "toggles")) operand) (sym run) ∙ work-chosen mode operand
 
-pub work-other : (mode operand : List ℕ) → bytes_eq mode (codes "run") ≡ false → bytes_eq mode (codes "workload") ≡ false → no_work ≡ work_of (Some mode) operand
-unfolding work_of
-work-other mode operand run load =
-    let numbered : Option Work = option_map Workload (decimal_of 4 1 2000 operand) in
-    sym (ap (λ b. cond b (work_as (File operand)) (cond (bytes_eq mode (codes "workload")) numbered None)) run
-    ∙ ap (λ b. cond b numbered None) load)
+pub work-last : (mode operand : List ℕ) (toggles : Bool) → bytes_eq mode (codes "run") ≡ false → bytes_eq mode (codes "workload") ≡ false → bytes_eq mode (codes "toggles") ≡ toggles
+    → cond toggles (work_as (Toggles operand)) no_work ≡ work_of (Some mode) operand
+work-last mode operand toggles run load is =
+    ap (λ b. chosen false false b operand) (sym is)
+    ∙ ap (λ b. chosen false b (bytes_eq mode (codes "toggles")) operand) (sym load)
+    ∙ ap (λ b. chosen b (bytes_eq mode (codes "workload")) (bytes_eq mode (codes "toggles")) operand) (sym run) ∙ work-chosen mode operand
+
+-- ---- the work, where it takes the options
+
+abbrev taken : Given → Option Work → Option Work
+taken g work = option_and_then (λ (w : Work). cond (takes g w) (work_as w) no_work) work
+
+taken-given : (g : Given) → taken g (work_of g.mode g.operand) ≡ work_given g
+unfolding work_given
+taken-given g = refl
+
+pub given-none : (g : Given) → no_work ≡ work_of g.mode g.operand → no_work ≡ work_given g
+given-none g none = ap (taken g) none ∙ taken-given g
+
+pub given-some : (g : Given) (work : Work) (choice : Bool) → work_as work ≡ work_of g.mode g.operand → takes g work ≡ choice → cond choice (work_as work) no_work ≡ work_given g
+given-some g work choice some is = ap (λ b. cond b (work_as work) no_work) (sym is) ∙ ap (taken g) some ∙ taken-given g
 
 -- ---- the numbers
 
@@ -65,11 +87,11 @@ built stats work budget order =
     budget)
     work
 
-entries-built : (g : Given) → built g.stats (work_of g.mode g.operand) (number_or g.events 10000000) (number_or g.order 0) ≡ entries_of g
+entries-built : (g : Given) → built g.stats (work_given g) (number_or g.events 10000000) (number_or g.order 0) ≡ entries_of g
 unfolding entries_of
 entries-built g = refl
 
-pub entries-some : (g : Given) (work : Work) (budget order : ℕ) → work_as work ≡ work_of g.mode g.operand → Some budget ≡ number_or g.events 10000000
+pub entries-some : (g : Given) (work : Work) (budget order : ℕ) → work_as work ≡ work_given g → Some budget ≡ number_or g.events 10000000
     → Some order ≡ number_or g.order 0 → entries_as work budget order g.stats ≡ entries_of g
 entries-some g work budget order work_is budget_is order_is =
     ap (λ (o : Option ℕ). built g.stats (Some work) (Some budget) o) order_is
@@ -77,17 +99,17 @@ entries-some g work budget order work_is budget_is order_is =
     ∙ ap (λ (w : Option Work). built g.stats w (number_or g.events 10000000) (number_or g.order 0)) work_is
     ∙ entries-built g
 
-pub entries-no_work : (g : Given) → no_work ≡ work_of g.mode g.operand → no_entries ≡ entries_of g
+pub entries-no_work : (g : Given) → no_work ≡ work_given g → no_entries ≡ entries_of g
 entries-no_work g work_is =
     ap (λ (w : Option Work). built g.stats w (number_or g.events 10000000) (number_or g.order 0)) work_is ∙ entries-built g
 
-pub entries-no_budget : (g : Given) (work : Work) → work_as work ≡ work_of g.mode g.operand → None ≡ number_or g.events 10000000 → no_entries ≡ entries_of g
+pub entries-no_budget : (g : Given) (work : Work) → work_as work ≡ work_given g → None ≡ number_or g.events 10000000 → no_entries ≡ entries_of g
 entries-no_budget g work work_is budget_is =
     ap (λ (b : Option ℕ). built g.stats (Some work) b (number_or g.order 0)) budget_is
     ∙ ap (λ (w : Option Work). built g.stats w (number_or g.events 10000000) (number_or g.order 0)) work_is
     ∙ entries-built g
 
-pub entries-no_order : (g : Given) (work : Work) (budget : ℕ) → work_as work ≡ work_of g.mode g.operand → Some budget ≡ number_or g.events 10000000
+pub entries-no_order : (g : Given) (work : Work) (budget : ℕ) → work_as work ≡ work_given g → Some budget ≡ number_or g.events 10000000
     → None ≡ number_or g.order 0 → no_entries ≡ entries_of g
 entries-no_order g work budget work_is budget_is order_is =
     ap (λ (o : Option ℕ). built g.stats (Some work) (Some budget) o) order_is

@@ -1,7 +1,7 @@
 //! What the words say.
 
 ghost use Rattle.std.specs.Prelude.{◌≡◌, Some, None, map, option_map, string_bytes, IfOk, IfSome, IsErrOf};
-ghost use Rattle.vvp_words.specs.Entries.{entries, entries_of, number_or, work_of};
+ghost use Rattle.vvp_words.specs.Entries.{entries, entries_of, number_or, speaks_of_run, takes, work_given, work_of};
 ghost use Rattle.vvp_words.specs.Seen.{seen, seen_given, seen_work};
 ghost use Rattle.vvp_words.specs.Sizes.{IsSized};
 
@@ -9,19 +9,21 @@ use crate::command::{Given, WordsFault, read_given};
 use crate::decimal::decimal;
 use std::alloc::Global;
 
-/// What is to be run.
+/// What is to be done.
 #[derive(Clone, Copy, Debug)]
 pub enum Work<'a> {
-    /// The file of this name.
+    /// The run of the file of this name.
     File(&'a [u8]),
-    /// The workload of this size, from 1 to 2,000.
+    /// The run of the workload of this size, from 1 to 2,000.
     Workload(u32),
+    /// The report on the dump of this name: how often its variables rise and fall.
+    Toggles(&'a [u8]),
 }
 
 /// What the words say.
 #[derive(Clone, Copy, Debug)]
 pub struct Entries<'a> {
-    /// What is to be run.
+    /// What is to be done. Where nothing is run, all else is as it usually is.
     pub work: Work<'a>,
     /// The most steps that the run does.
     pub budget: u32,
@@ -31,7 +33,7 @@ pub struct Entries<'a> {
     pub stats: bool,
 }
 
-// The work of an operand in a mode: a file, or a workload by its size.
+// The work of an operand in a mode: a file, a workload by its size, or a dump.
 fn work_of<'a>(mode: Option<&'a str>, operand: &'a str) -> Option<Work<'a>>
     ensures work { option_map seen_work result ≡ work_of (option_map (λ s. s.now) mode.entry) operand.entry.now }
     ensures sized { IfSome result IsSized }
@@ -48,7 +50,40 @@ fn work_of<'a>(mode: Option<&'a str>, operand: &'a str) -> Option<Work<'a>>
             Some(size) => Some(Work::Workload(size)),
         };
     }
+    if mode == "toggles" {
+        return Some(Work::Toggles(operand.as_bytes()));
+    }
     None
+}
+
+// Whether an option that speaks of a run was given, be it with its usual value.
+fn speaks_of_run(given: &Given) -> bool
+    ensures { result ≡ speaks_of_run (seen_given given.now) }
+{
+    given.events.is_some() || given.order.is_some() || given.stats
+}
+
+// Whether a work takes the options that were given: a report takes none that speaks of a run.
+fn takes(given: &Given, work: &Work) -> bool
+    ensures { result ≡ takes (seen_given given.now) (seen_work work.now) }
+{
+    match work {
+        Work::File(_) | Work::Workload(_) => true,
+        Work::Toggles(_) => !speaks_of_run(given),
+    }
+}
+
+// The work that the words say, where it takes their options.
+fn work_given<'a>(given: &Given<'a>) -> Option<Work<'a>>
+    ensures work { option_map seen_work result ≡ work_given (seen_given given.now) }
+    ensures sized { IfSome result IsSized }
+{
+    let work = work_of(given.mode, given.operand)?;
+    if takes(given, &work) {
+        Some(work)
+    } else {
+        None
+    }
 }
 
 // The number of an option that takes one, by default `usual`.
@@ -66,7 +101,7 @@ fn entries_of<'a>(given: &Given<'a>) -> Option<Entries<'a>>
     ensures entries { option_map seen result ≡ entries_of (seen_given given.now) }
     ensures sized { IfSome result (λ e. IsSized e.work) }
 {
-    let work = work_of(given.mode, given.operand)?;
+    let work = work_given(given)?;
     let budget = number_or(given.events, 10_000_000)?;
     let order = number_or(given.order, 0)?;
     Some(Entries {

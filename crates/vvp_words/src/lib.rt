@@ -1,5 +1,5 @@
-//! The words of the command line: a file or a workload, a budget of steps, an order, and whether the counts of the run are
-//! wanted. What the words say is what the library `clap` promises for one simple command, and then the rules on digits, ranges
+//! The words of the command line: the run of a file or of a workload, with a budget of steps, an order, and whether its counts
+//! are wanted; or the report on a dump. What the words say is what the library `clap` promises for one simple command, and then the rules on digits, ranges
 //! and modes.
 #![tactic(auto)]
 

@@ -11,7 +11,7 @@ type Row = (&'static str, Option<(Work<'static>, u32, u32, bool)>);
 const USUAL: u32 = 10_000_000;
 
 #[rattlefmt::skip]
-const ROWS: [Row; 44] = [
+const ROWS: [Row; 53] = [
     ("a", Some((Work::File(b"a"), USUAL, 0, false))),
     ("run", Some((Work::File(b"run"), USUAL, 0, false))),
     ("", Some((Work::File(b""), USUAL, 0, false))),
@@ -30,6 +30,8 @@ const ROWS: [Row; 44] = [
     ("1 --mode=workload --events 9", Some((Work::Workload(1), 9, 0, false))),
     ("--mode workload 0002", Some((Work::Workload(2), USUAL, 0, false))),
     ("--mode workload 2000 --order 3", Some((Work::Workload(2_000), USUAL, 3, false))),
+    ("--mode toggles a", Some((Work::Toggles(b"a"), USUAL, 0, false))),
+    ("a --mode=toggles", Some((Work::Toggles(b"a"), USUAL, 0, false))),
     ("--stats", None),
     ("a b", None),
     ("a --stats --stats", None),
@@ -56,6 +58,13 @@ const ROWS: [Row; 44] = [
     ("--mode workload 2001", None),
     ("--mode workload 00001", None),
     ("--mode workload a", None),
+    ("--mode toggles", None),
+    ("--mode Toggles a", None),
+    ("--mode toggles a --stats", None),
+    ("--mode toggles a --events 5", None),
+    ("--mode toggles a --events 10000000", None),
+    ("--mode toggles a --order 0", None),
+    ("a --order x --mode toggles", None),
 ];
 
 fn words_of(alloc: Global, text: &str) -> Result<Vec<String>, AllocError> {
@@ -70,6 +79,7 @@ fn same_work(found: Work, wanted: Work) -> bool {
     match (found, wanted) {
         (Work::File(name), Work::File(other)) => name == other,
         (Work::Workload(size), Work::Workload(other)) => size == other,
+        (Work::Toggles(name), Work::Toggles(other)) => name == other,
         _ => false,
     }
 }

@@ -11,7 +11,7 @@ pub(super) struct Row {
 }
 
 /// How many parts the rows have: a table that is large makes each goal in which it stands large.
-pub(super) const PARTS: usize = 11;
+pub(super) const PARTS: usize = 12;
 
 /// A part of the rows.
 pub(super) fn part(index: usize) -> &'static [Row] {
@@ -26,7 +26,8 @@ pub(super) fn part(index: usize) -> &'static [Row] {
         7 => part_8(),
         8 => part_9(),
         9 => part_10(),
-        _ => part_11(),
+        10 => part_11(),
+        _ => part_12(),
     }
 }
 
@@ -584,5 +585,68 @@ const PART_11: &[Row] = &[
         status: 2,
         out: b"",
         errs: Some(b"vvp: line 16: part outside~"),
+    },
+];
+
+fn part_12() -> &'static [Row] {
+    PART_12
+}
+
+const PART_12: &[Row] = &[
+    Row {
+        name: "toggles",
+        words: &["--mode", "toggles", "a"],
+        source: b"$version vvp profile P1 $end~$timescale 1ns $end~$scope module tb $end~$var reg 1 ! a $end~$var reg 4 \" v [3:0] $end~$upscope $end~$enddefinitions $end~#0~$dumpvars~0!~b0xx1 \"~$end~#1~bx01 \"~#2~b0 \"~",
+        status: 0,
+        out: b"tb.a 0 0~tb.v 0 1~",
+        errs: Some(b""),
+    },
+    Row {
+        name: "toggles_time_back",
+        words: &["--mode", "toggles", "a"],
+        source: b"$enddefinitions $end~#5~#4~",
+        status: 2,
+        out: b"",
+        errs: Some(b"vvp: line 3: time back~"),
+    },
+    Row {
+        name: "toggles_open_end",
+        words: &["--mode", "toggles", "a"],
+        source: b"~",
+        status: 2,
+        out: b"",
+        errs: Some(b"vvp: line 2: open end~"),
+    },
+    Row {
+        name: "toggles_stats",
+        words: &["--stats", "--mode", "toggles", "a"],
+        source: b"$enddefinitions $end",
+        status: 1,
+        out: b"",
+        errs: Some(b"vvp: bad words~"),
+    },
+    Row {
+        name: "toggles_usual_order",
+        words: &["--order", "0", "--mode", "toggles", "a"],
+        source: b"$enddefinitions $end",
+        status: 1,
+        out: b"",
+        errs: Some(b"vvp: bad words~"),
+    },
+    Row {
+        name: "toggles_events",
+        words: &["--events", "5", "--mode", "toggles", "a"],
+        source: b"$enddefinitions $end",
+        status: 1,
+        out: b"",
+        errs: Some(b"vvp: bad words~"),
+    },
+    Row {
+        name: "toggles_no_file",
+        words: &["--mode", "toggles", "b"],
+        source: b"$enddefinitions $end",
+        status: 8,
+        out: b"",
+        errs: Some(b"vvp: no such file~"),
     },
 ];

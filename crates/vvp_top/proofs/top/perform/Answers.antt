@@ -74,47 +74,47 @@ pub returns-in-Err-clause-bare : goal.returns-in-Err-clause-bare
 returns-in-Err-clause-bare g c = λ _. bare-counts _ c.in-Err.outcome c.bare-in-Err.ensures
 
 -- the run is stopped
-pub returns-in-Err-run_source-clause-bad_words : goal.returns-in-Err-run_source-clause-bad_words
-returns-in-Err-run_source-clause-bad_words g c = λ is. absurd (bare-isnt _ c.in-Err-run_source.outcome BadWords c.bare-in-Err-run_source.ensures c.in-Err-run_source.ensures.own is)
+pub returns-in-Err-work_on-clause-bad_words : goal.returns-in-Err-work_on-clause-bad_words
+returns-in-Err-work_on-clause-bad_words g c = λ is. absurd (bare-isnt _ c.in-Err-work_on.outcome BadWords c.bare-in-Err-work_on.ensures c.in-Err-work_on.ensures.own is)
 
-pub returns-in-Err-run_source-clause-refused : goal.returns-in-Err-run_source-clause-refused
-returns-in-Err-run_source-clause-refused g c = λ none. absurd (not-refused _ _ c.in-Ok.ensures.ok none)
+pub returns-in-Err-work_on-clause-refused : goal.returns-in-Err-work_on-clause-refused
+returns-in-Err-work_on-clause-refused g c = λ none. absurd (not-refused _ _ c.in-Ok.ensures.ok none)
 
-pub returns-in-Err-run_source-clause-store_fault : goal.returns-in-Err-run_source-clause-store_fault
-returns-in-Err-run_source-clause-store_fault g c = λ is. rose-later _ _ _ c.source_of.ensures.later (c.in-Err-run_source.ensures.store_fault (sym (bare-outcome _ c.in-Err-run_source.outcome c.bare-in-Err-run_source.ensures) ∙ is))
+pub returns-in-Err-work_on-clause-store_fault : goal.returns-in-Err-work_on-clause-store_fault
+returns-in-Err-work_on-clause-store_fault g c = λ is. rose-later _ _ _ c.source_of.ensures.later (c.in-Err-work_on.ensures.store_fault (sym (bare-outcome _ c.in-Err-work_on.outcome c.bare-in-Err-work_on.ensures) ∙ is))
 
-pub returns-in-Err-run_source-clause-output_fault : goal.returns-in-Err-run_source-clause-output_fault
-returns-in-Err-run_source-clause-output_fault g c = λ is. c.in-Err-run_source.ensures.output_fault (sym (bare-outcome _ c.in-Err-run_source.outcome c.bare-in-Err-run_source.ensures) ∙ is)
+pub returns-in-Err-work_on-clause-output_fault : goal.returns-in-Err-work_on-clause-output_fault
+returns-in-Err-work_on-clause-output_fault g c = λ is. c.in-Err-work_on.ensures.output_fault (sym (bare-outcome _ c.in-Err-work_on.outcome c.bare-in-Err-work_on.ensures) ∙ is)
 
-pub returns-in-Err-run_source-clause-whole : goal.returns-in-Err-run_source-clause-whole
-returns-in-Err-run_source-clause-whole g c = λ none.
-    run-refused (map string_bytes c.args.words.now) (seen c.in-Ok.entries) _ c.in-Ok-source_of.source.items c.in-Err-run_source.outcome _ _ _ _ _ _ c.in-Ok.ensures.ok c.deref.ensures.value c.in-Ok-source_of.ensures.source c.source_of.ensures.files (c.in-Err-run_source.ensures.refused (bare-yields _ c.in-Err-run_source.outcome _ c.bare-in-Err-run_source.ensures none)) c.bare-in-Err-run_source.ensures
+pub returns-in-Err-work_on-clause-whole : goal.returns-in-Err-work_on-clause-whole
+returns-in-Err-work_on-clause-whole g c = λ none.
+    run-refused (map string_bytes c.args.words.now) (seen c.in-Ok.entries) _ c.in-Ok-source_of.source.items c.in-Err-work_on.outcome _ _ _ _ _ _ c.in-Ok.ensures.ok c.deref.ensures.value c.in-Ok-source_of.ensures.source c.source_of.ensures.files (c.in-Err-work_on.ensures.refused (bare-yields _ c.in-Err-work_on.outcome _ c.bare-in-Err-work_on.ensures none)) c.bare-in-Err-work_on.ensures
 
-pub returns-in-Err-run_source-clause-cut : goal.returns-in-Err-run_source-clause-cut
-returns-in-Err-run_source-clause-cut g c = λ so.
-    run-cut (map string_bytes c.args.words.now) (seen c.in-Ok.entries) _ c.in-Ok-source_of.source.items _ _ _ _ _ c.in-Ok.ensures.ok c.deref.ensures.value c.in-Ok-source_of.ensures.source c.source_of.ensures.files (c.in-Err-run_source.ensures.cut (bare-yields _ c.in-Err-run_source.outcome _ c.bare-in-Err-run_source.ensures so))
+pub returns-in-Err-work_on-clause-cut : goal.returns-in-Err-work_on-clause-cut
+returns-in-Err-work_on-clause-cut g c = λ so.
+    run-cut (map string_bytes c.args.words.now) (seen c.in-Ok.entries) _ c.in-Ok-source_of.source.items _ _ _ _ _ c.in-Ok.ensures.ok c.deref.ensures.value c.in-Ok-source_of.ensures.source c.source_of.ensures.files (c.in-Err-work_on.ensures.cut (bare-yields _ c.in-Err-work_on.outcome _ c.bare-in-Err-work_on.ensures so))
 
-pub returns-in-Err-run_source-clause-bare : goal.returns-in-Err-run_source-clause-bare
-returns-in-Err-run_source-clause-bare g c = λ _. bare-counts _ c.in-Err-run_source.outcome c.bare-in-Err-run_source.ensures
+pub returns-in-Err-work_on-clause-bare : goal.returns-in-Err-work_on-clause-bare
+returns-in-Err-work_on-clause-bare g c = λ _. bare-counts _ c.in-Err-work_on.outcome c.bare-in-Err-work_on.ensures
 
 -- the run has come to its end
 pub returns-clause-bad_words : goal.returns-clause-bad_words
-returns-clause-bad_words g c = λ is. absurd (ended-isnt c.in-Ok-run_source.report.outcome BadWords c.in-Ok-run_source.ensures.run refl is)
+returns-clause-bad_words g c = λ is. absurd (ended-isnt c.in-Ok-work_on.report.outcome BadWords c.in-Ok-work_on.ensures.run refl is)
 
 pub returns-clause-refused : goal.returns-clause-refused
 returns-clause-refused g c = λ none. absurd (not-refused _ _ c.in-Ok.ensures.ok none)
 
 pub returns-clause-store_fault : goal.returns-clause-store_fault
-returns-clause-store_fault g c = λ is. absurd (ended-isnt c.in-Ok-run_source.report.outcome StoreFault c.in-Ok-run_source.ensures.run refl is)
+returns-clause-store_fault g c = λ is. absurd (ended-isnt c.in-Ok-work_on.report.outcome StoreFault c.in-Ok-work_on.ensures.run refl is)
 
 pub returns-clause-output_fault : goal.returns-clause-output_fault
-returns-clause-output_fault g c = λ is. absurd (ended-isnt c.in-Ok-run_source.report.outcome OutputFault c.in-Ok-run_source.ensures.run refl is)
+returns-clause-output_fault g c = λ is. absurd (ended-isnt c.in-Ok-work_on.report.outcome OutputFault c.in-Ok-work_on.ensures.run refl is)
 
 pub returns-clause-whole : goal.returns-clause-whole
-returns-clause-whole g c = λ _. run-did (map string_bytes c.args.words.now) (seen c.in-Ok.entries) _ c.in-Ok-source_of.source.items c.in-Ok-run_source.report _ _ _ _ _ c.in-Ok.ensures.ok c.deref.ensures.value c.in-Ok-source_of.ensures.source c.source_of.ensures.files c.in-Ok-run_source.ensures.whole
+returns-clause-whole g c = λ _. run-did (map string_bytes c.args.words.now) (seen c.in-Ok.entries) _ c.in-Ok-source_of.source.items c.in-Ok-work_on.report _ _ _ _ _ c.in-Ok.ensures.ok c.deref.ensures.value c.in-Ok-source_of.ensures.source c.source_of.ensures.files c.in-Ok-work_on.ensures.whole
 
 pub returns-clause-cut : goal.returns-clause-cut
-returns-clause-cut g c = λ so. absurd (ended-yields c.in-Ok-run_source.report.outcome c.in-Ok-run_source.ensures.run so)
+returns-clause-cut g c = λ so. absurd (ended-yields c.in-Ok-work_on.report.outcome c.in-Ok-work_on.ensures.run so)
 
 pub returns-clause-bare : goal.returns-clause-bare
-returns-clause-bare g c = λ isnt. absurd (ended-not c.in-Ok-run_source.report.outcome c.in-Ok-run_source.ensures.run isnt)
+returns-clause-bare g c = λ isnt. absurd (ended-not c.in-Ok-work_on.report.outcome c.in-Ok-work_on.ensures.run isnt)

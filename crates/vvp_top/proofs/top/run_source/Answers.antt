@@ -1,6 +1,6 @@
 use Rattle.std.proofs.Common.{refl}
 use Rattle.vvp_words.specs.Seen.{seen}
-use Rattle.vvp_top.specs.Whole.{whole_of_source}
+use Rattle.vvp_top.specs.Whole.{whole_of_run}
 use Rattle.vvp_top.proofs.TopLemmas.{cuts-nothing, refusal-isnt, refusal-silent, source-cut, source-done}
 use Rattle.vvp_top.proofs.FaultLemmas.{fault-is_output, fault-is_store, fault-isnt_mild, fault-isnt_words}
 use Rattle.vvp_top.proofs.PerformLemmas.{memory-not-output, memory-not-store, memory-not-words, not-yields}
@@ -12,7 +12,7 @@ pub returns-in-Err-clause-refused : goal.returns-in-Err-clause-refused
 returns-in-Err-clause-refused g c = λ none. (refusal-silent (seen c.args.entries.now) c.args.source.now c.in-Err.outcome c.in-Err.ensures.refused none, refl, refl)
 
 pub returns-in-Err-clause-cut : goal.returns-in-Err-clause-cut
-returns-in-Err-clause-cut g c = λ _. cuts-nothing (whole_of_source (seen c.args.entries.now) c.args.source.now) _ _ _ _ refl refl
+returns-in-Err-clause-cut g c = λ _. cuts-nothing (whole_of_run (seen c.args.entries.now) c.args.source.now) _ _ _ _ refl refl
 
 pub returns-in-Err-clause-store_fault : goal.returns-in-Err-clause-store_fault
 returns-in-Err-clause-store_fault g c = λ same. absurd (refusal-isnt c.in-Err.outcome _ _ c.in-Err.ensures.refused (λ is. cc) (λ why is. cc) same)
@@ -25,7 +25,7 @@ returns-in-Err-clause-own g c = λ same. refusal-isnt c.in-Err.outcome _ _ c.in-
 
 -- no memory for the engine
 pub returns-in-Err-load-clause-cut : goal.returns-in-Err-load-clause-cut
-returns-in-Err-load-clause-cut g c = λ _. cuts-nothing (whole_of_source (seen c.args.entries.now) c.args.source.now) _ _ _ _ refl refl
+returns-in-Err-load-clause-cut g c = λ _. cuts-nothing (whole_of_run (seen c.args.entries.now) c.args.source.now) _ _ _ _ refl refl
 
 -- the run is stopped
 pub returns-in-Err-run_engine-clause-cut : goal.returns-in-Err-run_engine-clause-cut

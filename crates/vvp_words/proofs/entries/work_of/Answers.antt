@@ -1,8 +1,8 @@
-use Rattle.std.proofs.Common.{ℕ, List, Option, Bor, sym, ap, ◌∙◌}
+use Rattle.std.proofs.Common.{ℕ, true, false, List, Option, Bor, sym, ap, ◌∙◌}
 use Rattle.std.specs.Prelude.{option_map}
 use Rattle.vvp_words.specs.Decimal.{decimal_of}
-use Rattle.vvp_words.specs.Entries.{File, Workload, work_of}
-use Rattle.vvp_words.proofs.EntriesLemmas.{work_as, work-load, work-none, work-other, work-run}
+use Rattle.vvp_words.specs.Entries.{File, Toggles, Workload, work_of}
+use Rattle.vvp_words.proofs.EntriesLemmas.{work_as, work-last, work-load, work-none, work-run}
 use Rattle.vvp_words.proofs.entries.work_of.Goals as goal
 
 pub returns-in_default-clause-work : goal.returns-in_default-clause-work
@@ -28,7 +28,13 @@ returns-in-Some-decimal-clause-work c =
     ∙ work-load c.in-Some.mode.now c.args.operand.now (sym c.eq.ensures ∙ c.if-eq.false) (sym c.eq-2.ensures ∙ c.if-eq-2.true)
     ∙ ap (λ (m : Option (Bor (List ℕ))). work_of (option_map (λ s. s.now) m) c.args.operand.now) (sym c.in-Some.is)
 
+pub returns-then-eq-3-clause-work : goal.returns-then-eq-3-clause-work
+returns-then-eq-3-clause-work c =
+    ap (λ (name : List ℕ). work_as (Toggles name)) c.as_bytes-then-eq-3.ensures.value
+    ∙ work-last c.in-Some.mode.now c.args.operand.now true (sym c.eq.ensures ∙ c.if-eq.false) (sym c.eq-2.ensures ∙ c.if-eq-2.false) (sym c.eq-3.ensures ∙ c.if-eq-3.true)
+    ∙ ap (λ (m : Option (Bor (List ℕ))). work_of (option_map (λ s. s.now) m) c.args.operand.now) (sym c.in-Some.is)
+
 pub returns-clause-work : goal.returns-clause-work
 returns-clause-work c =
-    work-other c.in-Some.mode.now c.args.operand.now (sym c.eq.ensures ∙ c.if-eq.false) (sym c.eq-2.ensures ∙ c.if-eq-2.false)
+    work-last c.in-Some.mode.now c.args.operand.now false (sym c.eq.ensures ∙ c.if-eq.false) (sym c.eq-2.ensures ∙ c.if-eq-2.false) (sym c.eq-3.ensures ∙ c.if-eq-3.false)
     ∙ ap (λ (m : Option (Bor (List ℕ))). work_of (option_map (λ s. s.now) m) c.args.operand.now) (sym c.in-Some.is)
