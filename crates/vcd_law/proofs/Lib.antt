@@ -1,0 +1,17 @@
+pub mod Known
+pub mod WordLemmas
+pub mod EntryLemmas
+pub mod CodeFacts
+pub mod TextFacts
+pub mod JoinLemmas
+pub mod SaidLemmas
+pub mod BodyLemmas
+pub mod NetLemmas
+pub mod BlockLemmas
+pub mod VarLemmas
+pub mod HeldLemmas
+pub mod UnitLemmas
+pub mod HeadLemmas
+pub mod OwnLaw
+pub mod TestLemmas
+pub mod GrowLemmas
