@@ -1,0 +1,11 @@
+pub mod DeliverLemmas
+pub mod ChangeLemmas
+pub mod EvalLemmas
+pub mod TimeLemmas
+pub mod WritingLemmas
+pub mod HeadLemmas
+pub mod PhaseLemmas
+pub mod CallLemmas
+pub mod EffectLemmas
+pub mod StepLemmas
+pub mod RunLemmas

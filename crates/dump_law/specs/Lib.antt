@@ -1,0 +1,4 @@
+pub mod Plain
+pub mod Steady
+pub mod Dumping
+pub mod Kept
