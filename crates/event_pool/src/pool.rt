@@ -199,7 +199,7 @@ fn add_free<E: Copy>(slots: &mut Vec<Slot<E>>, free: usize, more: usize) -> usiz
 }
 
 impl<E: Copy> Pool<E> {
-    ghost use Rattle.std.specs.Prelude.{[], ◌∷◌, ◌++◌, drop, slice_get, slice_set, max, Some, OnSome, IfNone, IfOk, OnOk, OnErr, replicate, remove};
+    ghost use Rattle.std.specs.Prelude.{[], ◌∷◌, ◌++◌, drop, slice_get, slice_set, max, Some, is_some, OnSome, IfNone, IfOk, OnOk, OnErr, replicate, remove};
     ghost use Rattle.event_pool.specs.Contents.{queue_at, with_queue};
 
     /// Empty queues, as many as given, and no slot.
@@ -244,6 +244,18 @@ impl<E: Copy> Pool<E> {
         ensures { result ≡ length (queue_at self.now q) }
     {
         chain_len(&self.slots, self.ends[q as usize].head)
+    }
+
+    /// Whether a queue has an item, in constant time.
+    pub fn has_any(&self, q: u32) -> bool
+        requires { q < length self.now.queues }
+        ensures { result ≡ is_some (slice_get (queue_at self.now q) 0) }
+    {
+        let head = self.ends[q as usize].head;
+        if head == NONE {
+            return false;
+        }
+        true
     }
 
     /// The first item of a queue, in constant time. None exactly where the queue is empty.
@@ -315,18 +327,16 @@ impl<E: Copy> Pool<E> {
         if ends.head == NONE {
             return None;
         }
-        let slot = self.slots[ends.head];
-        self.slots[ends.head] = Slot {
-            item: slot.item,
-            next: self.free,
-        };
+        let slot = &mut self.slots[ends.head];
+        let taken = *slot;
+        slot.next = self.free;
         self.ends[q as usize] = Ends {
-            head: slot.next,
+            head: taken.next,
             tail: ends.tail,
         };
         self.free = ends.head;
         self.spare += 1;
-        slot.item
+        taken.item
     }
 
     /// Puts all items of one queue behind those of another, in constant time.

@@ -60,6 +60,7 @@ fn check_queue(
 {
     let list = list_of(alloc, pairs, q)?;
     assert_eq!(rt; pool.len(q), list.len());
+    assert_eq!(rt; pool.has_any(q), !list.is_empty());
     assert_eq!(rt; pool.first(q), list.first().copied());
     assert_eq!(rt; pool.items(alloc, q)?.as_slice(), list.as_slice());
     for k in 0..pool.len(q) {

@@ -86,7 +86,7 @@ fn next_queue(pool: &Pool<Due>, now: u64) -> u32
     requires { length pool.now.queues ≡ QUEUES }
     ensures { result ≡ queue_after now pool.now.queues }
 {
-    if pool.first(INACTIVE).is_some() {
+    if pool.has_any(INACTIVE) {
         INACTIVE
     } else {
         nonblocking_at(now)
@@ -100,7 +100,7 @@ pub fn promote(pool: &mut Pool<Due>, now: u64)
     ensures queues { pool.new.queues ≡ promoted_queues now pool.old.queues }
     ensures spare { pool.new.spare ≡ pool.old.spare }
 {
-    if pool.first(ACTIVE).is_some() {
+    if pool.has_any(ACTIVE) {
         return;
     }
     pool.move_all(next_queue(pool, now), ACTIVE);
@@ -114,7 +114,7 @@ pub fn found(pool: &Pool<Due>, pending: usize) -> Settled
     if pending == 0 {
         return Settled::Empty;
     }
-    if pool.first(ACTIVE).is_some() {
+    if pool.has_any(ACTIVE) {
         Settled::Ready
     } else {
         Settled::TimeEnds
