@@ -4,6 +4,7 @@ pub mod FailLemmas
 pub mod CountLemmas
 pub mod OrderLemmas
 pub mod RunsLemmas
+pub mod StretchLemmas
 pub mod TurnLemmas
 pub mod FrameLemmas
 pub mod DescendLemmas

@@ -33,7 +33,7 @@ use Rattle.sim_core.proofs.DescendLemmas.{AreAmong}
 use Rattle.sim_core.proofs.EffectFitLemmas.{does-fits}
 use Rattle.sim_core.proofs.FailLemmas.{unprinted-fails}
 use Rattle.sim_core.proofs.FrameLemmas.{affect-framed, framed-is, framed-live, framed-same}
-use Rattle.sim_core.proofs.RowLemmas.{does-leaves}
+use Rattle.sim_core.proofs.RowLemmas.{does-ends, does-leaves}
 use Rattle.sim_core.proofs.SentLemmas.{proceeds-after}
 use Rattle.sim_core.proofs.SoundLemmas.{sound-framed}
 use Rattle.sim_core.proofs.WholeLemmas.{At, Whole, runs-at, shown_of}
@@ -186,7 +186,7 @@ opcode-steps old begun left heeded new (Some effect) serial thread runs begins l
     ends-same end =
         let done = l.done.2 in
         ap (λ (p : Frame × Effect). p.0) (sym done)
-        ∙ (does-leaves l.done.0 thread.frame (words_now begun.program begun.machine)).ends (ap (λ (p : Frame × Effect). p.1) done ∙ end)
+        ∙ does-ends l.done.0 thread.frame (words_now begun.program begun.machine) (ap (λ (p : Frame × Effect). p.1) done ∙ end)
 
 -- ---- want of memory
 
@@ -247,7 +247,7 @@ opcode-fails old begun left new (Some effect) serial thread runs begins l fails 
     ends-same end =
         let done = l.done.2 in
         ap (λ (p : Frame × Effect). p.0) (sym done)
-        ∙ (does-leaves l.done.0 thread.frame (words_now begun.program begun.machine)).ends (ap (λ (p : Frame × Effect). p.1) done ∙ end)
+        ∙ does-ends l.done.0 thread.frame (words_now begun.program begun.machine) (ap (λ (p : Frame × Effect). p.1) done ∙ end)
 
 -- ---- a step that begins
 

@@ -1,5 +1,5 @@
 -- What the row of an opcode leaves of a frame: its place, no child more, and all of it where the thread ends.
-use Rattle.std.proofs.Common.{◌≡◌, ℕ, zero, suc, ◌-◌, ℤ, pos, Bool, true, false, cond, not, ◌&&◌, nat_eq, Option, Some, None, List, [], ◌∷◌, length, take, drop, Result, Ok, Err, refl, sym, ap, ◌∙◌}
+use Rattle.std.proofs.Common.{◌≡◌, ℕ, zero, suc, ◌-◌, ℤ, pos, Bool, true, false, cond, not, ◌&&◌, nat_eq, Option, Some, None, List, [], ◌∷◌, length, take, drop, Result, Ok, Err, refl, sym, ap, subst, ◌∙◌}
 use Rattle.std.specs.List.{slice_get}
 use Rattle.std.specs.Prelude.{slice_index, slice_index_or}
 use Rattle.four_state.specs.declared.bits.Bit.{Bit}
@@ -10,7 +10,7 @@ use Rattle.vvp_ops.specs.declared.op.Op.TheVariants as o
 use Rattle.op_exec.specs.declared.effect.TrapKind.{TrapKind}
 use Rattle.op_exec.specs.declared.effect.TrapKind.TheVariants.{NoChild}
 use Rattle.op_exec.specs.declared.effect.Effect.{Effect}
-use Rattle.op_exec.specs.declared.effect.Effect.TheVariants.{Assign, End, Force, Join, Next, Set}
+use Rattle.op_exec.specs.declared.effect.Effect.TheVariants.{Assign, End, Force, Join, Next, Set, Trap}
 use Rattle.op_exec.specs.Rows.{◌>>=◌, Words, is_blocked, pushed, top_of, top_of_width, value_of}
 use Rattle.op_exec.specs.Outcomes.{on_frame, on_stack, on_stack_and_flags, with_trap}
 use Rattle.op_exec.specs.StackRows.{stack_row}
@@ -21,11 +21,17 @@ use Rattle.op_exec.specs.EffectRows.{called_for, delay_at, effect_row, joined_la
 use Rattle.op_exec.specs.Does.{arithmetic_does, comparison_does, does, effect_does, family_of, register_does, stack_does}
 use Rattle.sim_core.proofs.DescendLemmas.{AreAmong}
 
+-- the thread does no opcode after one with this effect
+abbrev IsLast : Effect → Type 0
+IsLast End = Unit {0}
+IsLast (Trap kind) = Unit {0}
+IsLast other = ⊥
+
 -- what an opcode leaves
 pub record Leaves (frame left : Frame) (effect : Effect) : Type 0 where
   pub pc : left.pc ≡ frame.pc
   pub children : AreAmong left.children frame.children
-  pub ends : effect ≡ End → left ≡ frame
+  pub ends : IsLast effect → left ≡ frame
 
 -- the same of a row, unless it is a trap
 abbrev Holds : Frame → Result (Frame × Effect) TrapKind → Type 0
@@ -44,7 +50,7 @@ next-leaves : (frame left : Frame) → Keeps frame left → Leaves frame left Ne
 next-leaves frame left keeps = record {
   pc = keeps.0;
   children = λ place child e. (place, ap (λ (xs : List ℕ). slice_get xs place) (sym keeps.1) ∙ e);
-  ends = λ e. absurd (let none : ⊥ = cc in none);
+  ends = λ none. absurd none;
 }
 
 only-leaves : (frame : Frame) (effect : Effect) → Holds frame (only frame effect)
@@ -91,17 +97,17 @@ register-keeps _ frame words = (refl, refl)
 -- ---- rows with effects
 
 -- what is popped gives an effect that isn't the end
-taken-leaves : (frame : Frame) (popped : Result (List Bit) TrapKind) (effect : List Bit → Effect) → ((top : List Bit) → effect top ≡ End → ⊥)
+taken-leaves : (frame : Frame) (popped : Result (List Bit) TrapKind) (effect : List Bit → Effect) → ((top : List Bit) → IsLast (effect top) → ⊥)
     → Holds frame (popped >>= (λ top. Ok (with_stack frame (drop 1 frame.stack), effect top)))
 taken-leaves frame (Ok top) effect goes = record { pc = refl; children = λ place child e. (place, e); ends = λ e. absurd (goes top e) }
 taken-leaves frame (Err kind) effect goes = tt
 
-either-goes : (b : Bool) (x y : Effect) → (x ≡ End → ⊥) → (y ≡ End → ⊥) → cond b x y ≡ End → ⊥
+either-goes : (b : Bool) (x y : Effect) → (IsLast x → ⊥) → (IsLast y → ⊥) → IsLast (cond b x y) → ⊥
 either-goes true x y f g e = f e
 either-goes false x y f g e = g e
 
-word-goes : (word : Option ℕ) (effect : ℕ → Effect) → ((k : ℕ) → effect k ≡ End → ⊥) → on_word word effect ≡ End → ⊥
-word-goes None effect goes e = cc
+word-goes : (word : Option ℕ) (effect : ℕ → Effect) → ((k : ℕ) → IsLast (effect k) → ⊥) → IsLast (on_word word effect) → ⊥
+word-goes None effect goes e = e
 word-goes (Some k) effect goes e = goes k e
 
 loaded-leaves : (frame : Frame) (item : List Bit) → Holds frame (loaded frame item)
@@ -124,7 +130,7 @@ joined-leaves frame = go (nat_eq (length frame.children) 0) where
   go false = record {
     pc = refl;
     children = λ place child e. (place, take-among (length frame.children - 1) frame.children place child e);
-    ends = λ e. absurd (let none : ⊥ = cc in none);
+    ends = λ none. absurd none;
   }
 
 called-leaves : (frame : Frame) (call : Result Effect TrapKind) → Holds frame (called_for frame call)
@@ -136,20 +142,20 @@ effect-leaves (o.Load item) frame words = loaded-leaves frame _
 effect-leaves (o.LoadWord array index) frame words = loaded-leaves frame _
 effect-leaves (o.Store item offset width) frame words =
     taken-leaves frame (top_of_width frame.stack width) (λ top. cond (not (nat_eq offset 0) && is_blocked frame.flags) Next (Set item 0 (offset_at frame.registers offset) top))
-    (λ top. either-goes (not (nat_eq offset 0) && is_blocked frame.flags) Next (Set item 0 (offset_at frame.registers offset) top) (λ e. cc) (λ e. cc))
+    (λ top. either-goes (not (nat_eq offset 0) && is_blocked frame.flags) Next (Set item 0 (offset_at frame.registers offset) top) (λ e. e) (λ e. e))
 effect-leaves (o.StoreWord array index offset) frame words =
     taken-leaves frame (top_of frame.stack) (λ top. on_word (word_at frame (words array) index) (λ word. Set array word (offset_at frame.registers offset) top))
-    (λ top. word-goes (word_at frame (words array) index) (λ word. Set array word (offset_at frame.registers offset) top) (λ k e. cc))
-effect-leaves (o.Assign item delay) frame words = taken-leaves frame (top_of_width frame.stack (length (value_of (words item)))) (λ top. Assign item 0 (pos 0) top delay) (λ top e. cc)
+    (λ top. word-goes (word_at frame (words array) index) (λ word. Set array word (offset_at frame.registers offset) top) (λ k e. e))
+effect-leaves (o.Assign item delay) frame words = taken-leaves frame (top_of_width frame.stack (length (value_of (words item)))) (λ top. Assign item 0 (pos 0) top delay) (λ top e. e)
 effect-leaves (o.AssignRegister item delay) frame words =
-    taken-leaves frame (top_of_width frame.stack (length (value_of (words item)))) (λ top. Assign item 0 (pos 0) top (delay_at frame.registers delay)) (λ top e. cc)
+    taken-leaves frame (top_of_width frame.stack (length (value_of (words item)))) (λ top. Assign item 0 (pos 0) top (delay_at frame.registers delay)) (λ top e. e)
 effect-leaves (o.AssignOffset item offset delay) frame words =
     taken-leaves frame (top_of frame.stack) (λ top. cond (is_blocked frame.flags) Next (Assign item 0 (offset_at frame.registers offset) top (delay_at frame.registers delay)))
-    (λ top. either-goes (is_blocked frame.flags) Next (Assign item 0 (offset_at frame.registers offset) top (delay_at frame.registers delay)) (λ e. cc) (λ e. cc))
+    (λ top. either-goes (is_blocked frame.flags) Next (Assign item 0 (offset_at frame.registers offset) top (delay_at frame.registers delay)) (λ e. e) (λ e. e))
 effect-leaves (o.AssignWord array offset delay) frame words =
     taken-leaves frame (top_of frame.stack) (λ top. on_word (word_at frame (words array) 3) (λ word. Assign array word (offset_at frame.registers offset) top (delay_at frame.registers delay)))
-    (λ top. word-goes (word_at frame (words array) 3) (λ word. Assign array word (offset_at frame.registers offset) top (delay_at frame.registers delay)) (λ k e. cc))
-effect-leaves (o.Force item) frame words = taken-leaves frame (top_of_width frame.stack (length (value_of (words item)))) (λ top. Force item top) (λ top e. cc)
+    (λ top. word-goes (word_at frame (words array) 3) (λ word. Assign array word (offset_at frame.registers offset) top (delay_at frame.registers delay)) (λ k e. e))
+effect-leaves (o.Force item) frame words = taken-leaves frame (top_of_width frame.stack (length (value_of (words item)))) (λ top. Force item top) (λ top e. e)
 effect-leaves o.Join frame words = joined-leaves frame
 effect-leaves (o.CallTask file line name args pops) frame words = called-leaves frame _
 effect-leaves (o.CallFunction file line name width args pops) frame words = called-leaves frame _
@@ -239,3 +245,13 @@ does-leaves (o.CompareSignedImmediate a b c) frame words = with_trap-leaves fram
 does-leaves (o.CompareEqualImmediate a b c) frame words = with_trap-leaves frame (on_stack_and_flags frame (comparison_row (o.CompareEqualImmediate a b c) frame.stack frame.flags)) (flags-leave frame _)
 does-leaves (o.CompareNotEqualImmediate a b c) frame words = with_trap-leaves frame (on_stack_and_flags frame (comparison_row (o.CompareNotEqualImmediate a b c) frame.stack frame.flags)) (flags-leave frame _)
 does-leaves op frame words = with_trap-leaves frame (effect_row op frame words) (effect-leaves op frame words)
+
+-- the end of a thread leaves its frame
+pub does-ends : (op : Op ℕ) (frame : Frame) (words : Words) → (does op frame words).1 ≡ End → (does op frame words).0 ≡ frame
+does-ends op frame words end = (does-leaves op frame words).ends (subst IsLast (sym end) tt)
+
+-- a trap leaves the frame
+pub does-traps : (op : Op ℕ) (frame left : Frame) (kind : TrapKind) (words : Words) → does op frame words ≡ (left, Trap kind) → left ≡ frame
+does-traps op frame left kind words did =
+    ap (λ (p : Frame × Effect). p.0) (sym did)
+    ∙ (does-leaves op frame words).ends (subst IsLast (sym (ap (λ (p : Frame × Effect). p.1) did)) tt)

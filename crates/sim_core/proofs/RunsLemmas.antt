@@ -14,11 +14,11 @@ use Rattle.sim_core.proofs.FailLemmas.{After, added, between-before, between-mor
 
 -- ---- what was handed over
 
-after-sent : (program : Program) (order count : ℕ) → After (after program order count)
+pub after-sent : (program : Program) (order count : ℕ) → After (after program order count)
 after-sent program order zero sent machine = refl
 after-sent program order (suc count) sent machine = ap (step program order) (after-sent program order count sent machine) ∙ step-after program order sent (after program order count machine)
 
-after-sum : (program : Program) (order more count : ℕ) (machine : Machine) → after program order (more + count) machine ≡ after program order more (after program order count machine)
+pub after-sum : (program : Program) (order more count : ℕ) (machine : Machine) → after program order (more + count) machine ≡ after program order more (after program order count machine)
 after-sum program order zero count machine = let none : 0 + count ≡ count = omega arith in ap (λ (n : ℕ). after program order n machine) none
 after-sum program order (suc more) count machine =
     let one : suc more + count ≡ suc (more + count) = omega arith in

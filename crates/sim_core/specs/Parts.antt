@@ -239,5 +239,3 @@ applied_at program place machine = applied program place (slice_get (active_dues
 -- the due that an order picks is taken away and applied
 abbrev pub take_by_order : Program → ℕ → Machine → Machine
 take_by_order program order machine = applied_at program (choice_of order machine) machine
-
--- ---- counting

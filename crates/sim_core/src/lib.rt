@@ -17,6 +17,7 @@ mod orders;
 mod pieces;
 mod snapshot;
 mod start;
+mod stretch;
 #[cfg(test)]
 mod tests;
 

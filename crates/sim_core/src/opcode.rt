@@ -55,10 +55,10 @@ fn scope_there(scopes: &[u32], place: u32) -> u32
     scopes[place as usize]
 }
 
-// Does the opcode at which a thread stands, on its own frame, where it asks nothing of the run but to go on; none, and nothing
-// is done, where it asks more.
+/// Does the opcode at which a thread stands, on its own frame, where it asks nothing of the run but to go on; none, and nothing
+/// is done, where it asks more.
 #[inline(always)]
-fn do_local<V: Values>(code: &[Op<u32>], frame: &mut Frame, values: &V) -> Option<Local>
+pub(crate) fn do_local<V: Values>(code: &[Op<u32>], frame: &mut Frame, values: &V) -> Option<Local>
     requires { (op : Op ℕ) → slice_get code.now frame.old.pc ≡ Some op → IsExecutable (V.words_of values.now) op }
     ensures done { IfSome result (Locally (Done code.now frame.old frame.new (V.words_of values.now)) (frame.new ≡ frame.old)) }
     ensures kept { IfNone result (frame.new ≡ frame.old) }

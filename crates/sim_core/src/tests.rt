@@ -53,7 +53,8 @@ fn loaded(alloc: Global, src: &[u8], order: u32) -> Result<Engine<Wheel, ChainFa
     Ok(Engine::load(alloc, program, wheel, fan, order)?)
 }
 
-// Runs a file for at most 100 steps, the first of them by itself. False where the first ends the run.
+// Runs a file for at most 100 steps, the first of them by itself and a thread's own after it in a row. False where the first ends
+// the run.
 fn goes_on(engine: &mut Engine<Wheel, ChainFanout>) -> Result<bool, AllocError>
     requires ending { engine.old.machine.ending ≡ None }
     requires steps { engine.old.machine.steps ≡ 0 }
@@ -61,7 +62,8 @@ fn goes_on(engine: &mut Engine<Wheel, ChainFanout>) -> Result<bool, AllocError>
     if engine.step()?.is_some() {
         return Ok(false);
     }
-    let _ending = run(engine, 99)?;
+    let done = engine.run_on(99);
+    let _ending = run(engine, u64::from(99 - done))?;
     Ok(true)
 }
 
