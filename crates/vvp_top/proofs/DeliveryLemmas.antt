@@ -112,7 +112,7 @@ cut-grows old new before m grows cut = record {
 
 -- ---- the output is handed over
 
-shows-out : (sent : Sent) (shown : Shown) → with_sent sent shown.machine ≡ with_sent (record { out = sent.out ++ shown.machine.tasks.out; dump = sent.dump }) (without_out shown).machine
+pub shows-out : (sent : Sent) (shown : Shown) → with_sent sent shown.machine ≡ with_sent (record { out = sent.out ++ shown.machine.tasks.out; dump = sent.dump }) (without_out shown).machine
 shows-out sent shown =
     ap (λ (out : List ℕ). record shown.machine { tasks = record shown.machine.tasks { out = out; dump = sent.dump ++ shown.machine.tasks.dump } }) (sym (append-nil (sent.out ++ shown.machine.tasks.out)))
 

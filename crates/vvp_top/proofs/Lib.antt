@@ -10,6 +10,7 @@ pub mod VerdictLemmas
 pub mod ResultLemmas
 pub mod ReportLemmas
 pub mod SourceLemmas
+pub mod ActivityLemmas
 pub mod FaultLemmas
 pub mod MainLemmas
 pub mod PerformLemmas

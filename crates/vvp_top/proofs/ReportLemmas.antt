@@ -4,6 +4,11 @@ use Rattle.std.specs.Prelude.{Result, Ok, Err}
 use Rattle.std.specs.List.{enumerate_from}
 use Rattle.std.proofs.lemmas.List.{length-map}
 use Rattle.std.proofs.lemmas.List.FromFn.{length-enumerate_from}
+use Rattle.sym_link.specs.declared.program.Program.{Program}
+use Rattle.sym_link.specs.Verdict as verdict
+use Rattle.sim_core.specs.Machine.{Machine}
+use Rattle.sim_core.specs.Start.{run as run_of}
+use Rattle.dump_law.specs.Plain.{plain_names}
 use Rattle.vcd_read.specs.Reading.{Fault, reading}
 use Rattle.vcd_read.specs.declared.types.Trace.{Trace}
 use Rattle.vcd_read.specs.declared.types.VcdKind.{VcdKind}
@@ -13,12 +18,13 @@ use Rattle.toggle_lanes.specs.declared.rows.Row.{Row}
 use Rattle.vvp_edge.specs.Files.{Files}
 use Rattle.vvp_words.specs.Entries.{Entries, Work}
 use Rattle.vvp_words.specs.Entries as words
-use Rattle.vvp_top.specs.declared.outcome.Outcome.TheVariants.{Refused}
+use Rattle.vvp_top.specs.declared.outcome.Outcome.{Outcome}
+use Rattle.vvp_top.specs.declared.outcome.Outcome.TheVariants.{Refused, Reported}
 use Rattle.vvp_top.specs.declared.refusal.Why.TheVariants as why
 use Rattle.vvp_top.specs.declared.report.Report.{Report}
 use Rattle.vvp_top.specs.Ends.{HandedOver, LeavesFiles}
-use Rattle.vvp_top.specs.Toggles.{toggle_line, toggle_lines, toggle_text}
-use Rattle.vvp_top.specs.Whole.{Whole, reported, silent, whole_of_dump, whole_of_reading, whole_of_source, whole_of_work}
+use Rattle.vvp_top.specs.Toggles.{own_text, toggle_line, toggle_lines, toggle_text}
+use Rattle.vvp_top.specs.Whole.{Dump, Whole, activity_of_machine, activity_of_program, activity_of_verdict, dump_of, ended, is_larger, reported, silent, trace_of, whole_of_activity, whole_of_dump, whole_of_own, whole_of_reading, whole_of_source, whole_of_work}
 use Rattle.vvp_top.proofs.TopLemmas.{leaves-none}
 use Rattle.vvp_top.proofs.VerdictLemmas.{le-test, lt-test}
 
@@ -38,7 +44,7 @@ dump-large bytes most is large = sym (dump-by bytes most is) ∙ ap (λ b. by_si
 dump-small : (bytes : List ℕ) (most : ℕ) → most ≡ 2 ^ 26 → length bytes ≤ most → whole_of_dump bytes ≡ whole_of_reading (reading bytes)
 dump-small bytes most is small = sym (dump-by bytes most is) ∙ ap (λ b. by_size b bytes) (le-test most (length bytes) small)
 
-pub dump-read : (bytes : List ℕ) (most : ℕ) (trace : Trace) → most ≡ 2 ^ 26 → length bytes ≤ most → reading bytes ≡ Ok trace → whole_of_dump bytes ≡ reported (toggle_text trace)
+pub dump-read : (bytes : List ℕ) (most : ℕ) (trace : Trace) → most ≡ 2 ^ 26 → length bytes ≤ most → reading bytes ≡ Ok trace → whole_of_dump bytes ≡ reported Reported (toggle_text trace)
 dump-read bytes most trace is small read = dump-small bytes most is small ∙ ap whole_of_reading read
 
 pub dump-fault : (bytes : List ℕ) (most line : ℕ) (kind : VcdKind) → most ≡ 2 ^ 26 → length bytes ≤ most → reading bytes ≡ Err (record { line = line; kind = kind })
@@ -53,6 +59,31 @@ none-by false (Err fault) = refl
 
 pub dump-none : (bytes : List ℕ) → (whole_of_dump bytes).dump ≡ None
 dump-none bytes = ap (λ (w : Whole). w.dump) (sym (dump-by bytes (2 ^ 26) refl)) ∙ none-by (nat_lt (2 ^ 26) (length bytes)) (reading bytes)
+
+-- ---- the report on the dump of a run makes none either
+
+own-by : (end : Outcome) (trace : Option Trace) (large : Bool) → (cond large (silent (Refused 0 why.TooLarge)) (reported end (own_text trace))).dump ≡ None
+own-by end trace true = refl
+own-by end trace false = refl
+
+own-none : (end : Outcome) (dump : Option Dump) → (whole_of_own end dump).dump ≡ None
+unfolding whole_of_own
+own-none end dump = own-by end (trace_of dump) (is_larger (2 ^ 26) dump)
+
+activity-by : (e : Entries) (program : Program) (plain : Bool) → (cond plain (activity_of_machine (run_of program e.order e.budget)) (silent (Refused 0 why.BadName))).dump ≡ None
+activity-by e program true = let machine : Machine = run_of program e.order e.budget in own-none (ended machine.ending) (dump_of machine)
+activity-by e program false = refl
+
+activity-program : (e : Entries) (program : Program) → (activity_of_program e program).dump ≡ None
+unfolding activity_of_program
+activity-program e program = activity-by e program (plain_names program)
+
+activity-verdict : (e : Entries) (v : Result Program verdict.Why) → (activity_of_verdict e v).dump ≡ None
+activity-verdict e (Ok program) = activity-program e program
+activity-verdict e (Err w) = refl
+
+pub activity-none : (e : Entries) (bytes : List ℕ) → (whole_of_activity e bytes).dump ≡ None
+activity-none e bytes = activity-verdict e (verdict.verdict bytes)
 
 -- ---- its lines
 
@@ -93,9 +124,12 @@ rows-long trace rows vars is those =
 pub source-dump : (e : Entries) (name bytes : List ℕ) → e.work ≡ words.Toggles name → whole_of_source e bytes ≡ whole_of_dump bytes
 source-dump e name bytes is = ap (λ (w : Work). whole_of_work w e bytes) is
 
+pub source-activity : (e : Entries) (name bytes : List ℕ) → e.work ≡ words.Activity name → whole_of_source e bytes ≡ whole_of_activity e bytes
+source-activity e name bytes is = ap (λ (w : Work). whole_of_work w e bytes) is
+
 -- a report leaves the files
-pub dump-did : (w : Whole) (bytes : List ℕ) (report : Report) (held held' : Option (List ℕ)) (files : Option Files) → w ≡ whole_of_dump bytes
-    → (report ≡ (whole_of_dump bytes).report) × HandedOver (whole_of_dump bytes).output held held' → (report ≡ w.report) × HandedOver w.output held held' × LeavesFiles w.dump files files
-dump-did w bytes report held held' files is did =
-    let none : LeavesFiles (whole_of_dump bytes).dump files files = subst (λ d. LeavesFiles d files files) (sym (dump-none bytes)) (leaves-none files files refl) in
+pub report-did : (w made : Whole) (report : Report) (held held' : Option (List ℕ)) (files : Option Files) → w ≡ made → made.dump ≡ None
+    → (report ≡ made.report) × HandedOver made.output held held' → (report ≡ w.report) × HandedOver w.output held held' × LeavesFiles w.dump files files
+report-did w made report held held' files is no_file did =
+    let none : LeavesFiles made.dump files files = subst (λ d. LeavesFiles d files files) (sym no_file) (leaves-none files files refl) in
     subst (λ (x : Whole). (report ≡ x.report) × HandedOver x.output held held' × LeavesFiles x.dump files files) (sym is) (did.0, did.1, none)

@@ -6,6 +6,7 @@ use Rattle.sim_core.specs.declared.ending.Ending.{Ending}
 use Rattle.sim_core.specs.Machine.{Machine, dues_of, phase}
 use Rattle.sim_core.specs.Engine.{in_turn_of_machine}
 use Rattle.sim_core.specs.Step.{after, budgeted, idle, is_idle, is_idle_at, run_from, step}
+use Rattle.sim_core.proofs.RunsLemmas.{after-sum}
 use Rattle.sim_core.proofs.StepLemmas.{after-stays}
 use Rattle.vvp_edge.specs.Causes.{Rose}
 use Rattle.vvp_top.specs.declared.fault.Fault.{Fault}
@@ -17,13 +18,13 @@ use Rattle.vvp_top.proofs.DeliveryLemmas.{append_known-nil, cut-grows}
 
 -- ---- runs of the machine
 
-after-sum : (program : Program) (order more count : ℕ) (machine : Machine) → after program order (more + count) machine ≡ after program order more (after program order count machine)
-after-sum program order zero count machine = let none : 0 + count ≡ count = omega arith in ap (λ (n : ℕ). after program order n machine) none
-after-sum program order (suc more) count machine =
-    let one : suc more + count ≡ suc (more + count) = omega arith in
-    ap (λ (n : ℕ). after program order n machine) one ∙ ap (step program order) (after-sum program order more count machine)
+-- so many steps and then more
+after-both : (program : Program) (order count more : ℕ) (machine : Machine) → after program order more (after program order count machine) ≡ after program order (count + more) machine
+after-both program order count more machine =
+    let turned : more + count ≡ count + more = omega arith in
+    sym (after-sum program order more count machine) ∙ ap (λ (n : ℕ). after program order n machine) turned
 
-after-grows : (program : Program) (order count : ℕ) (machine : Machine) → Grows machine.tasks (after program order count machine).tasks
+pub after-grows : (program : Program) (order count : ℕ) (machine : Machine) → Grows machine.tasks (after program order count machine).tasks
 after-grows program order zero machine = grows-none machine.tasks
 after-grows program order (suc count) machine =
     let there : Machine = after program order count machine in
@@ -79,29 +80,27 @@ stands-start machine m made is = record {
 }
 
 -- one turn more
-pub stands-next : (program now_program : Program) (order now_order count : ℕ) (machine : Machine) (before : Before) (old new : Moment) → now_program ≡ program → now_order ≡ order
-    → Stands (after program order count machine) before old → ((m : Machine) (b : Before) → Stands m b old → Stands (step now_program now_order m) b new)
-    → Stands (after program order (count + 1) machine) before new
-stands-next program now_program order now_order count machine before old new programs orders stands moved =
-    let next : suc count ≡ count + 1 = omega arith in
+pub stands-next : (program now_program : Program) (order now_order count more answered : ℕ) (machine : Machine) (before : Before) (old new : Moment) → now_program ≡ program → now_order ≡ order → answered ≡ more
+    → Stands (after program order count machine) before old → ((m : Machine) (b : Before) → Stands m b old → Stands (after now_program now_order more m) b new)
+    → Stands (after program order (count + answered) machine) before new
+stands-next program now_program order now_order count more answered machine before old new programs orders told stands moved =
     let there : Machine = after program order count machine in
-    subst (λ (n : ℕ). Stands (after program order n machine) before new) next
-    (subst (λ (p : Program). Stands (step p order there) before new) programs
-    (subst (λ (o : ℕ). Stands (step now_program o there) before new) orders (moved there before stands)))
+    subst (λ (m : Machine). Stands m before new) (after-both program order count more machine ∙ ap (λ (n : ℕ). after program order (count + n) machine) (sym told))
+    (subst (λ (p : Program). Stands (after p order more there) before new) programs
+    (subst (λ (o : ℕ). Stands (after now_program o more there) before new) orders (moved there before stands)))
 
 -- the same, where a turn is cut short
-pub cut-next : (program now_program : Program) (order now_order count budget : ℕ) (machine : Machine) (before : Before) (old new : Moment) → now_program ≡ program → now_order ≡ order → count + 1 ≤ budget
-    → Stands (after program order count machine) before old → ((m : Machine) (b : Before) → Stands m b old → CutAt (step now_program now_order m) b new)
+pub cut-next : (program now_program : Program) (order now_order count more budget : ℕ) (machine : Machine) (before : Before) (old new : Moment) → now_program ≡ program → now_order ≡ order → count + more ≤ budget
+    → Stands (after program order count machine) before old → ((m : Machine) (b : Before) → Stands m b old → CutAt (after now_program now_order more m) b new)
     → IsCut (run_from program order budget machine) before.held before.files new.held new.files
-cut-next program now_program order now_order count budget machine before old new programs orders within stands cut =
-    let next : suc count ≡ count + 1 = omega arith in
+cut-next program now_program order now_order count more budget machine before old new programs orders within stands cut =
     let there : Machine = after program order count machine in
-    let here : CutAt (after program order (count + 1) machine) before new =
-    subst (λ (n : ℕ). CutAt (after program order n machine) before new) next
-    (subst (λ (p : Program). CutAt (step p order there) before new) programs
-    (subst (λ (o : ℕ). CutAt (step now_program o there) before new) orders (cut there before stands))) in
+    let here : CutAt (after program order (count + more) machine) before new =
+    subst (λ (m : Machine). CutAt m before new) (after-both program order count more machine)
+    (subst (λ (p : Program). CutAt (after p order more there) before new) programs
+    (subst (λ (o : ℕ). CutAt (after now_program o more there) before new) orders (cut there before stands))) in
     is-cut (run_from program order budget machine) before new
-    (cut-grows (after program order (count + 1) machine) (run_from program order budget machine) before new (run-grows program order (count + 1) budget machine within) here)
+    (cut-grows (after program order (count + more) machine) (run_from program order budget machine) before new (run-grows program order (count + more) budget machine within) here)
 
 -- the run has ended before its budget, and all is handed over
 pub done-early : (program : Program) (order count budget : ℕ) (ending : Ending) (machine : Machine) (before : Before) (m new : Moment) → count ≤ budget

@@ -8,7 +8,7 @@ use Rattle.vvp_words.specs.Entries.{Entries, Work}
 use Rattle.vvp_words.specs.Entries as words
 use Rattle.vvp_top.specs.declared.outcome.Outcome.TheVariants.{NoFile, Refused}
 use Rattle.vvp_top.specs.declared.refusal.Why.TheVariants as why
-use Rattle.vvp_top.specs.Whole.{silent, whole_of_found, whole_of_verdict, whole_of_work}
+use Rattle.vvp_top.specs.Whole.{activity_of_verdict, silent, whole_of_found, whole_of_verdict, whole_of_work}
 use Rattle.vvp_top.proofs.VerdictLemmas.{most_source, verdict-large}
 use Rattle.vvp_top.proofs.ReportLemmas.{dump-large}
 
@@ -34,6 +34,7 @@ work-large : (work : Work) (e : Entries) (bytes : List ℕ) (most : ℕ) → mos
 work-large (words.File name) e bytes most is large = ap (whole_of_verdict e) (verdict-large bytes most is large)
 work-large (words.Workload size) e bytes most is large = ap (whole_of_verdict e) (verdict-large bytes most is large)
 work-large (words.Toggles name) e bytes most is large = dump-large bytes most is large
+work-large (words.Activity name) e bytes most is large = ap (activity_of_verdict e) (verdict-large bytes most is large)
 
 -- it has more bytes than a source may have
 pub file-large : (files : Option Files) (reading : Option (List ℕ)) (name : List ℕ) (found : Bool) → found ≡ true → IfSome files (λ m. found ≡ map.contains_key m name)

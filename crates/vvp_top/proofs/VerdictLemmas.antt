@@ -25,6 +25,9 @@ lt-test a b lt = grind (arith, nat_tests)
 pub le-test : (a b : ℕ) → b ≤ a → nat_lt a b ≡ false
 le-test a b le = grind (arith, nat_tests)
 
+pub test-lt : (a b : ℕ) → nat_lt a b ≡ true → a < b
+test-lt a b is = grind (arith, nat_tests)
+
 pub verdict-large : (file : List ℕ) (most : ℕ) → most ≡ 2 ^ 26 → most < length file → verdict file ≡ Err TooLarge
 unfolding verdict
 verdict-large file most is large =

@@ -1,11 +1,13 @@
 -- A run whose output is handed over while it goes on: what was handed over and what the engine still has are together what the
 -- machine has put out.
-use Rattle.std.specs.Prelude.{◌≡◌, ℕ, ◌≤◌, Bool, true, false, IsTrue, List, [], option_map, Option, Some, None, Result, OnOk, OnErr, IfErr}
+use Rattle.std.specs.Prelude.{◌≡◌, ℕ, ◌≤◌, Bool, true, false, IsTrue, List, [], option_map, Option, Some, None, Result, OnOk, OnErr, IfOk, IfErr}
 use Rattle.std.specs.FinMap.{insert}
 use Rattle.std.specs.Io.KnownBytes.{append_known}
 use Rattle.sys_tasks.specs.Phase.{dump_name}
 use Rattle.sim_core.specs.Machine.{Machine}
 use Rattle.sim_core.specs.Engine.{Sent, Shown, in_turn_of_machine, with_sent}
+use Rattle.sim_core.specs.Step.{after}
+use Rattle.sym_link.specs.declared.program.Program.{Program}
 use Rattle.vvp_edge.specs.Bytes.{TellsAtMost}
 use Rattle.vvp_edge.specs.Causes.{Rose}
 use Rattle.vvp_edge.specs.Files.{Files}
@@ -91,6 +93,14 @@ pub record Goes {T : Type 0} (f : Machine → Machine) (result : Result T Fault)
   pub store_later : old.store_faults ≤ new.store_faults
   pub out_later : old.out_faults ≤ new.out_faults
   pub stop : IfErr result (λ why. StopsBy why old new)
+
+-- a call does some steps, at most so many, or is stopped in them; where it isn't, it answers how many it did
+pub record Turns {T : Type 0} (program : Program) (order most : ℕ) (result : Result (ℕ × T) Fault) (old new : Moment) : Type 0 where
+  pub count : ℕ
+  pub some : 1 ≤ count
+  pub within : count ≤ most
+  pub told : IfOk result (λ turned. turned.0 ≡ count)
+  pub goes : Goes (after program order count) result old new
 
 -- the machine stays
 abbrev pub same_machine : Machine → Machine

@@ -4,3 +4,4 @@ pub mod Whole
 pub mod Ends
 pub mod Refusals
 pub mod Delivery
+pub mod Activity

@@ -134,6 +134,7 @@ why_text (why.Lexical kind) = lexical_text kind
 why_text (why.Form kind) = form_text kind
 why_text (why.Link kind) = link_text kind
 why_text (why.Dump kind) = dump_text kind
+why_text why.BadName = codes "bad name"
 
 -- ---- lines
 

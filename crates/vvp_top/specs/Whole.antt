@@ -8,6 +8,7 @@ use Rattle.sim_core.specs.declared.ending.Ending.{Ending}
 use Rattle.sim_core.specs.declared.ending.Ending.TheVariants as run
 use Rattle.sim_core.specs.Machine.{Machine}
 use Rattle.sim_core.specs.Start.{run as run_of}
+use Rattle.dump_law.specs.Plain.{plain_names}
 use Rattle.vcd_read.specs.Reading.{Fault, reading}
 use Rattle.vcd_read.specs.declared.types.Trace.{Trace}
 use Rattle.vvp_edge.specs.Files.{Files}
@@ -20,7 +21,7 @@ use Rattle.vvp_top.specs.declared.outcome.Outcome.{Outcome}
 use Rattle.vvp_top.specs.declared.outcome.Outcome.TheVariants.{Finish, Stop, Idle, Reported, BadWords, Refused, Spent, Trap, NoFile}
 use Rattle.vvp_top.specs.declared.report.Counts.{Counts}
 use Rattle.vvp_top.specs.declared.report.Report.{Report}
-use Rattle.vvp_top.specs.Toggles.{toggle_text}
+use Rattle.vvp_top.specs.Toggles.{own_text, toggle_text}
 
 -- a dump: the name of its file, and its bytes
 pub record Dump : Type 0 where
@@ -102,18 +103,56 @@ whole_of_run e bytes = whole_of_verdict e (verdict.verdict bytes)
 
 -- ---- a report
 
--- nothing is run, and this is put out
-abbrev pub reported : List ℕ → Whole
-reported text = record { report = record { outcome = Reported; counts = None }; output = text; dump = None }
+-- this is put out, and no file is made
+abbrev pub reported : Outcome → List ℕ → Whole
+reported outcome text = record { report = record { outcome = outcome; counts = None }; output = text; dump = None }
 
 -- the report on what a dump says, or the first fault of a file that is no dump
 abbrev pub whole_of_reading : Result Trace Fault → Whole
-whole_of_reading (Ok trace) = reported (toggle_text trace)
+whole_of_reading (Ok trace) = reported Reported (toggle_text trace)
 whole_of_reading (Err fault) = silent (Refused fault.line (why.Dump fault.kind))
 
 -- the report on a dump of these bytes, if they are one
 unfoldable pub whole_of_dump : List ℕ → Whole
 whole_of_dump bytes = if nat_lt (2 ^ 26) (length bytes) then silent (Refused 0 why.TooLarge) else whole_of_reading (reading bytes)
+
+-- ---- the report on the dump of a run
+
+-- what a reading gives
+abbrev pub trace_in : Result Trace Fault → Option Trace
+trace_in (Ok trace) = Some trace
+trace_in (Err fault) = None
+
+-- the trace of a dump, if there is a dump. That of a run of a program with plain names has one: it is in the reader's grammar (a clause of `own_trace`)
+abbrev pub trace_of : Option Dump → Option Trace
+trace_of None = None
+trace_of (Some dump) = trace_in (reading dump.bytes)
+
+-- whether there is a dump, and it has more bytes than these
+abbrev pub is_larger : ℕ → Option Dump → Bool
+is_larger most None = false
+is_larger most (Some dump) = nat_lt most (length dump.bytes)
+
+-- the report on a dump, if there is one, and this outcome
+unfoldable pub whole_of_own : Outcome → Option Dump → Whole
+whole_of_own outcome dump = if is_larger (2 ^ 26) dump then silent (Refused 0 why.TooLarge) else reported outcome (own_text (trace_of dump))
+
+-- the report on the dump of a run that has come to its end, or to that of its budget
+abbrev pub activity_of_machine : Machine → Whole
+activity_of_machine machine = whole_of_own (ended machine.ending) (dump_of machine)
+
+-- the same of a program, for the budget and in the order that the words say, if a dump can hold its names
+unfoldable pub activity_of_program : Entries → Program → Whole
+activity_of_program e program = if plain_names program then activity_of_machine (run_of program e.order e.budget) else silent (Refused 0 why.BadName)
+
+-- the same of the program that a file has, if it has one
+abbrev pub activity_of_verdict : Entries → Result Program verdict.Why → Whole
+activity_of_verdict e (Ok program) = activity_of_program e program
+activity_of_verdict e (Err w) = silent (refused w)
+
+-- the same, for a file of these bytes
+abbrev pub whole_of_activity : Entries → List ℕ → Whole
+whole_of_activity e bytes = activity_of_verdict e (verdict.verdict bytes)
 
 -- ---- what the words say
 
@@ -122,12 +161,14 @@ abbrev pub source_of : Work → Files → Option (List ℕ)
 source_of (words.File name) files = get files name
 source_of (words.Workload size) files = Some (workload_text size)
 source_of (words.Toggles name) files = get files name
+source_of (words.Activity name) files = get files name
 
 -- what is done with a source of these bytes
 abbrev pub whole_of_work : Work → Entries → List ℕ → Whole
 whole_of_work (words.File name) e bytes = whole_of_run e bytes
 whole_of_work (words.Workload size) e bytes = whole_of_run e bytes
 whole_of_work (words.Toggles name) e bytes = whole_of_dump bytes
+whole_of_work (words.Activity name) e bytes = whole_of_activity e bytes
 
 -- the same, as the words say
 abbrev pub whole_of_source : Entries → List ℕ → Whole

@@ -4,9 +4,9 @@ ghost use Rattle.std.specs.Prelude.{◌≡◌, ◌<◌, ◌≤◌, ◌+◌, ◌*
 ghost use Rattle.std.specs.Io.KnownBytes.{append_known};
 ghost use Rattle.sim_core.specs.Engine.{EngineFollows, in_turn_of_machine};
 ghost use Rattle.sim_core.specs.Machine.{Machine};
-ghost use Rattle.sim_core.specs.Step.{budgeted, run_from, step};
+ghost use Rattle.sim_core.specs.Step.{budgeted, run_from};
 ghost use Rattle.vvp_edge.specs.Causes.{Rose};
-ghost use Rattle.vvp_top.specs.Delivery.{Before, DoneAt, Goes, IsCut, IsDone, Stands, moment, same_machine};
+ghost use Rattle.vvp_top.specs.Delivery.{Before, DoneAt, Goes, IsCut, IsDone, Stands, Turns, moment, same_machine};
 
 use crate::dump::send_dump;
 use crate::fault::Fault;
@@ -71,33 +71,37 @@ fn hand_over_if_full<A: Agenda + Drop, F: Fanout + Drop, S: Store, K: Sink>(
     Ok(())
 }
 
-// Does one step, after which full buffers are handed over. Answers the run's ending, or none where it goes on.
+// Does a thread's own opcodes in a row and then one step, at most so many steps in all, after which full buffers are handed over.
+// Answers how many steps it did, and the run's ending, or none where it goes on.
 fn turn<A: Agenda + Drop, F: Fanout + Drop, S: Store, K: Sink>(
     engine: &mut Engine<A, F>,
+    most: u32,
     store: &mut S,
     out: &mut K,
     made: &mut bool,
-) -> Result<Option<Ending>, Fault>
-    requires steps { engine.old.machine.steps < 3 * 2 ^ 62 }
+) -> Result<(u32, Option<Ending>), Fault>
+    requires some { 0 < most }
+    requires steps { engine.old.machine.steps + most ≤ 3 * 2 ^ 62 }
     requires writing { made.old ≡ true → IsTrue (S.writing store.old) }
-    ensures goes { Goes (step engine.old.program engine.old.order) result
+    ensures turns { Turns engine.old.program engine.old.order most result
         (moment made.old engine.old (K.held out.old) (K.faults out.old) (S.files store.old) (S.target store.old) (S.writing store.old) (S.faults store.old))
         (moment made.new engine.new (K.held out.new) (K.faults out.new) (S.files store.new) (S.target store.new) (S.writing store.new) (S.faults store.new)) }
-    ensures answer { IfOk result (λ ending. ending ≡ engine.new.machine.ending) }
-    ensures counted { OnOk result (engine.new.machine.steps ≤ engine.old.machine.steps + 1) }
+    ensures answer { IfOk result (λ turned. turned.1 ≡ engine.new.machine.ending) }
+    ensures counted { IfOk result (λ turned. engine.new.machine.steps ≤ engine.old.machine.steps + turned.0) }
 {
+    let ran = engine.run_on(most - 1);
     let ending = match engine.step() {
         Err(_) => return Err(Fault::Memory),
         Ok(ending) => ending,
     };
     match hand_over_if_full(engine, store, out, made) {
         Err(fault) => Err(fault),
-        Ok(()) => Ok(ending),
+        Ok(()) => Ok((ran + 1, ending)),
     }
 }
 
-// The end of a budget: a run with nothing left to do is idle, and any other stays as it is. Answers the ending, if there is one.
-fn end_budget<A: Agenda + Drop, F: Fanout + Drop>(
+/// The end of a budget: a run with nothing left to do is idle, and any other stays as it is. Answers the ending, if there is one.
+pub(crate) fn end_budget<A: Agenda + Drop, F: Fanout + Drop>(
     engine: &mut Engine<A, F>,
 ) -> Result<Option<Ending>, Fault>
     requires steps { engine.old.machine.steps < 3 * 2 ^ 62 }
@@ -191,11 +195,13 @@ pub(crate) fn run_engine<A: Agenda + Drop, F: Fanout + Drop, S: Store, K: Sink>(
     ensures out_later { K.faults out.old ≤ K.faults out.new }
 {
     let mut made = false;
-    for _done in 0..budget {
-        let answer = match turn(engine, store, out, &mut made) {
+    let mut done = 0;
+    while done < budget {
+        let (turned, answer) = match turn(engine, budget - done, store, out, &mut made) {
             Err(fault) => return Err(fault),
-            Ok(answer) => answer,
+            Ok(turned) => turned,
         };
+        done += turned;
         match answer {
             None => {}
             Some(ending) => return close(engine, store, out, &mut made, ending),

@@ -1,6 +1,7 @@
 //! The program without its runtime: one call over the words, a store and two sinks.
 #![tactic(auto)]
 
+mod activity;
 mod delivery;
 mod dump;
 mod fault;
@@ -14,6 +15,8 @@ mod toggles;
 mod top;
 mod verdict;
 
+pub use activity::{Own, own_trace};
+pub use dump_law::plain_names;
 pub use outcome::Outcome;
 pub use refusal::Why;
 pub use report::{Counts, Report};

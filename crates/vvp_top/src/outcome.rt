@@ -1,13 +1,15 @@
 //! How a call of the program ends.
 
-ghost use Rattle.std.specs.Prelude.{◌≡◌};
+ghost use Rattle.std.specs.Prelude.{◌≡◌, true};
 ghost use Rattle.vvp_top.specs.Ends.{Says};
-ghost use Rattle.vvp_top.specs.Texts.{ending_name, fixed_line, line_of, status_of, trap_name};
+ghost use Rattle.vvp_top.specs.Texts.{ending_name, fixed_line, is_ended, line_of, status_of, trap_name};
+ghost use Rattle.vvp_top.specs.Whole.{ended};
 
 use crate::pieces::say_pieces;
 use crate::refusal::Why;
 use itoa::Buffer;
 use op_exec::TrapKind;
+use sim_core::Ending;
 use vvp_edge::Sink;
 
 /// How a call of the program ends.
@@ -23,8 +25,8 @@ pub enum Outcome {
     Reported,
     /// The words aren't those of a call of the program.
     BadWords,
-    /// The file has no program, or is no dump. `line` is that on which its first faulty statement or word begins, counted from 1,
-    /// or 0 where the file as a whole is refused.
+    /// The file has no program, is no dump, or has a dump that can't be reported on. `line` is that on which its first faulty
+    /// statement or word begins, counted from 1, or 0 where the file as a whole is refused.
     Refused { line: u32, why: Why },
     /// The run didn't end within its budget of steps.
     Spent,
@@ -53,6 +55,20 @@ fn trap_name(kind: TrapKind) -> &'static [u8]
         TrapKind::OffEnd => b"OffEnd",
         TrapKind::TimeOver => b"TimeOver",
         TrapKind::ThreadsOver => b"ThreadsOver",
+    }
+}
+
+/// How a run ended, or that its budget of steps is spent.
+pub(crate) fn ended(ending: Option<Ending>) -> Outcome
+    ensures ended { result ≡ ended ending }
+    ensures own { is_ended result ≡ true }
+{
+    match ending {
+        Some(Ending::Finish) => Outcome::Finish,
+        Some(Ending::Stop) => Outcome::Stop,
+        Some(Ending::Idle) => Outcome::Idle,
+        Some(Ending::Trap { kind, address }) => Outcome::Trap { kind, address },
+        None => Outcome::Spent,
     }
 }
 

@@ -7,10 +7,10 @@ use sym_link::LinkKind;
 use vcd_read::VcdKind;
 use vvp_lex::{FormKind, LexKind};
 
-/// Why a file has no program, or is no dump.
+/// Why a file has no program, is no dump, or has one that can't be reported on.
 #[derive(Clone, Copy, Debug, PartialEq, Eq)]
 pub enum Why {
-    /// It has more bytes than a source may have.
+    /// It, or the dump of its run, has more bytes than a source may have.
     TooLarge,
     /// Its bytes aren't all tokens and statements.
     Lexical(LexKind),
@@ -20,6 +20,8 @@ pub enum Why {
     Link(LinkKind),
     /// It is no dump.
     Dump(VcdKind),
+    /// The name of a scope, a variable or a net can't stand in a dump.
+    BadName,
 }
 
 // The text of a lexical fault.
@@ -98,6 +100,7 @@ impl Why {
             Why::Form(kind) => form_text(kind),
             Why::Link(kind) => link_text(kind),
             Why::Dump(kind) => dump_text(kind),
+            Why::BadName => b"bad name",
         }
     }
 }

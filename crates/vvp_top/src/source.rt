@@ -60,7 +60,9 @@ pub(crate) fn source_of<S: Store>(
     ensures later { S.faults store.old ≤ S.faults store.new }
 {
     match work {
-        Work::File(name) | Work::Toggles(name) => open_source(alloc, name, store),
+        Work::File(name) | Work::Toggles(name) | Work::Activity(name) => {
+            open_source(alloc, name, store)
+        }
         Work::Workload(size) => match workload(alloc, *size) {
             Err(_) => Err(Outcome::Memory),
             Ok(text) => Ok(text),

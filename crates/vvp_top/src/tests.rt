@@ -2,11 +2,14 @@
 
 mod rows;
 
-use crate::vvp_main;
+use crate::verdict::program_of;
+use crate::{own_trace, plain_names, vvp_main};
 use rows::{PARTS, Row, part};
+use sim_core::Ending;
 use std::alloc::{AllocError, Global};
 use std::process::Abort;
 use std::test::Fail;
+use vcd_read::Trace;
 use vvp_edge::{CallKind, Failed, HonestSink, HonestStore, MemSink, MemStore, Sink, Store};
 
 // The call, without its contract, which would stand in each goal after it.
@@ -179,6 +182,39 @@ fn dump_file(rt: HostRuntime) -> Result<(), Fail> {
     assert!(rt; dumps(rt.alloc(), Some(CallKind::Append), b"d", 5, Some(b""))?);
     assert!(rt; dumps(rt.alloc(), Some(CallKind::OpenFile), b"d", 5, None)?);
     assert!(rt; dumps(rt.alloc(), Some(CallKind::Read), b"d", 5, None)?);
+    Ok(())
+}
+
+// How many variables and values a dump has, if there is one, and whether its run ended by itself.
+fn counts_of(trace: &Option<Trace>, ending: Option<Ending>) -> Option<(usize, usize, bool)> {
+    let idle = matches!(ending, Some(Ending::Idle));
+    match trace {
+        None => None,
+        Some(trace) => Some((trace.vars.as_slice().len(), trace.changes.len(), idle)),
+    }
+}
+
+// The same of the dump of the dumping design's run.
+fn traced(alloc: Global, budget: u32) -> Result<Option<(usize, usize, bool)>, AllocError> {
+    let source = dumping(alloc, b"d")?;
+    let program = match program_of(alloc, &source) {
+        Err(_) => return Ok(None),
+        Ok(program) => program,
+    };
+    if !plain_names(&program) {
+        return Ok(None);
+    }
+    match own_trace(alloc, program, budget, 0) {
+        Err(_) => Ok(None),
+        Ok((trace, ending)) => Ok(counts_of(&trace, ending)),
+    }
+}
+
+#[test]
+fn trace_of_a_run(rt: HostRuntime) -> Result<(), Fail> {
+    assert_eq!(rt; traced(rt.alloc(), 100)?, Some((2, 4, true)));
+    assert_eq!(rt; traced(rt.alloc(), 12)?, Some((2, 2, false)));
+    assert_eq!(rt; traced(rt.alloc(), 1)?, None);
     Ok(())
 }
 

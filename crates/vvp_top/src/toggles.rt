@@ -79,7 +79,7 @@ pub(crate) fn report_toggles<K: Sink>(
 
 // What a dump says. Refused where it is too large, and then at the first fault of a file that is no dump.
 fn trace_of(alloc: Global, dump: &[u8]) -> Result<Trace, Outcome>
-    ensures whole { IfOk result (λ trace. whole_of_dump dump.now ≡ reported (toggle_text trace)) }
+    ensures whole { IfOk result (λ trace. whole_of_dump dump.now ≡ reported Outcome.Reported (toggle_text trace)) }
     ensures of_nets { IfOk result (IsTrace (2 ^ 26)) }
     ensures refused { IfErr result (λ outcome. (outcome ≡ Outcome.Memory) ⊎ (whole_of_dump dump.now ≡ silent outcome)) }
     ensures own { IfErr result (λ outcome. (outcome ≡ Outcome.StoreFault → ⊥) × (outcome ≡ Outcome.OutputFault → ⊥) × (outcome ≡ Outcome.BadWords → ⊥)) }

@@ -6,32 +6,19 @@ ghost use Rattle.vvp_words.specs.Entries.{entries};
 ghost use Rattle.vvp_words.specs.Seen.{seen};
 ghost use Rattle.vvp_top.specs.Ends.{CutFiles, CutShort, HandedOver, LeavesFiles, Says};
 ghost use Rattle.vvp_top.specs.Texts.{is_ended, may_come_anytime, message_at, own_message, status_of, yields};
-ghost use Rattle.vvp_top.specs.Whole.{counts_of, ended, silent, whole, whole_of_run, whole_of_source};
+ghost use Rattle.vvp_top.specs.Whole.{counts_of, silent, whole, whole_of_run, whole_of_source};
 
+use crate::activity::report_activity;
 use crate::delivery::run_engine;
 use crate::load::{Runner, load};
+use crate::outcome::ended;
 use crate::source::source_of;
 use crate::toggles::report_on;
 use crate::verdict::program_of;
 use crate::{Counts, Outcome, Report};
-use sim_core::Ending;
 use std::alloc::Global;
 use vvp_edge::{Sink, Store};
 use vvp_words::{Entries, WordsFault, Work, read_words};
-
-// How a run ended, or that its budget of steps is spent.
-fn ended(ending: Option<Ending>) -> Outcome
-    ensures ended { result ≡ ended ending }
-    ensures own { is_ended result ≡ true }
-{
-    match ending {
-        Some(Ending::Finish) => Outcome::Finish,
-        Some(Ending::Stop) => Outcome::Stop,
-        Some(Ending::Idle) => Outcome::Idle,
-        Some(Ending::Trap { kind, address }) => Outcome::Trap { kind, address },
-        None => Outcome::Spent,
-    }
-}
 
 // The counts of a run, where they are wanted.
 fn counts_of(engine: &Runner, stats: bool) -> Option<Counts>
@@ -85,7 +72,7 @@ fn run_source<S: Store, K: Sink>(
     }
 }
 
-// Does with a source what the words say: runs its program, or reports on it as on a dump.
+// Does with a source what the words say: runs its program, reports on it as on a dump, or on the dump of its program.
 fn work_on<S: Store, K: Sink>(
     alloc: Global,
     source: &[u8],
@@ -108,6 +95,7 @@ fn work_on<S: Store, K: Sink>(
     match entries.work {
         Work::File(_) | Work::Workload(_) => run_source(alloc, source, entries, store, out),
         Work::Toggles(_) => report_on(alloc, source, out),
+        Work::Activity(_) => report_activity(alloc, source, entries, out),
     }
 }
 
@@ -141,7 +129,8 @@ fn perform<S: Store, K: Sink>(alloc: Global, words: &[String], store: &mut S, ou
 
 /// The program without its runtime: runs the file, or the workload, that the words name, hands over its output and its dump while it
 /// runs, and says the lines of its status. In the mode `toggles` it runs nothing, and puts out how often the variables of a dump rise
-/// and fall. Answers the status.
+/// and fall. In the mode `activity` it runs the file, leaves out its output, makes no file for its dump, and puts out the same of the
+/// dump; the status is that of the run. Answers the status.
 ///
 /// `words` leaves out the program's name. The statuses are those of `Outcome`. In the mode `workload` no file is asked for.
 pub fn vvp_main<S: Store, K: Sink, M: Sink>(

@@ -4,7 +4,7 @@ use Rattle.std.specs.Prelude.{option_map, option_and_then}
 use Rattle.std.specs.Str.{bytes_eq}
 use Rattle.vvp_words.specs.Command.{Given, given}
 use Rattle.vvp_words.specs.Decimal.{decimal_of}
-use Rattle.vvp_words.specs.Entries.{Entries, Work, File, Workload, Toggles, entries, entries_of, number_or, takes, work_given, work_of}
+use Rattle.vvp_words.specs.Entries.{Entries, Work, File, Workload, Toggles, Activity, entries, entries_of, number_or, takes, work_given, work_of}
 
 abbrev pub work_as : Work → Option Work
 work_as work = Some work
@@ -27,29 +27,44 @@ work-none operand = refl
 abbrev numbered : List ℕ → Option Work
 numbered operand = option_map Workload (decimal_of 4 1 2000 operand)
 
--- by which of the modes it is
-abbrev chosen : Bool → Bool → Bool → List ℕ → Option Work
-chosen run load toggles operand = cond run (work_as (File operand)) (cond load (numbered operand) (cond toggles (work_as (Toggles operand)) no_work))
+-- by which of the modes that report it is
+abbrev reports : Bool → Bool → List ℕ → Option Work
+reports toggles activity operand = cond toggles (work_as (Toggles operand)) (cond activity (work_as (Activity operand)) no_work)
 
-work-chosen : (mode operand : List ℕ) → chosen (bytes_eq mode (codes "run")) (bytes_eq mode (codes "workload")) (bytes_eq mode (codes "toggles")) operand ≡ work_of (Some mode) operand
+abbrev reports_in : List ℕ → List ℕ → Option Work
+reports_in mode operand = reports (bytes_eq mode (codes "toggles")) (bytes_eq mode (codes "activity")) operand
+
+-- by which of the modes it is
+abbrev chosen : Bool → Bool → List ℕ → List ℕ → Option Work
+chosen run load mode operand = cond run (work_as (File operand)) (cond load (numbered operand) (reports_in mode operand))
+
+work-chosen : (mode operand : List ℕ) → chosen (bytes_eq mode (codes "run")) (bytes_eq mode (codes "workload")) mode operand ≡ work_of (Some mode) operand
 unfolding work_of
 work-chosen mode operand = refl
 
 pub work-run : (mode operand : List ℕ) → bytes_eq mode (codes "run") ≡ true → work_as (File operand) ≡ work_of (Some mode) operand
-work-run mode operand run =
-    ap (λ b. chosen b (bytes_eq mode (codes "workload")) (bytes_eq mode (codes "toggles")) operand) (sym run) ∙ work-chosen mode operand
+work-run mode operand run = ap (λ b. chosen b (bytes_eq mode (codes "workload")) mode operand) (sym run) ∙ work-chosen mode operand
 
 pub work-load : (mode operand : List ℕ) → bytes_eq mode (codes "run") ≡ false → bytes_eq mode (codes "workload") ≡ true → numbered operand ≡ work_of (Some mode) operand
 work-load mode operand run load =
-    ap (λ b. chosen false b (bytes_eq mode (codes "toggles")) operand) (sym load)
-    ∙ ap (λ b. chosen b (bytes_eq mode (codes "workload")) (bytes_eq mode (codes "toggles")) operand) (sym run) ∙ work-chosen mode operand
+    ap (λ b. chosen false b mode operand) (sym load) ∙ ap (λ b. chosen b (bytes_eq mode (codes "workload")) mode operand) (sym run) ∙ work-chosen mode operand
 
-pub work-last : (mode operand : List ℕ) (toggles : Bool) → bytes_eq mode (codes "run") ≡ false → bytes_eq mode (codes "workload") ≡ false → bytes_eq mode (codes "toggles") ≡ toggles
-    → cond toggles (work_as (Toggles operand)) no_work ≡ work_of (Some mode) operand
-work-last mode operand toggles run load is =
-    ap (λ b. chosen false false b operand) (sym is)
-    ∙ ap (λ b. chosen false b (bytes_eq mode (codes "toggles")) operand) (sym load)
-    ∙ ap (λ b. chosen b (bytes_eq mode (codes "workload")) (bytes_eq mode (codes "toggles")) operand) (sym run) ∙ work-chosen mode operand
+-- it is none of the others
+work-other : (mode operand : List ℕ) → bytes_eq mode (codes "run") ≡ false → bytes_eq mode (codes "workload") ≡ false → reports_in mode operand ≡ work_of (Some mode) operand
+work-other mode operand run load =
+    ap (λ b. chosen false b mode operand) (sym load) ∙ ap (λ b. chosen b (bytes_eq mode (codes "workload")) mode operand) (sym run) ∙ work-chosen mode operand
+
+work-reports : (mode operand : List ℕ) (toggles activity : Bool) → bytes_eq mode (codes "toggles") ≡ toggles → bytes_eq mode (codes "activity") ≡ activity → reports toggles activity operand ≡ reports_in mode operand
+work-reports mode operand toggles activity first second =
+    ap (λ b. reports b activity operand) (sym first) ∙ ap (λ b. reports (bytes_eq mode (codes "toggles")) b operand) (sym second)
+
+pub work-toggles : (mode operand : List ℕ) → bytes_eq mode (codes "run") ≡ false → bytes_eq mode (codes "workload") ≡ false → bytes_eq mode (codes "toggles") ≡ true
+    → work_as (Toggles operand) ≡ work_of (Some mode) operand
+work-toggles mode operand run load toggles = work-reports mode operand true (bytes_eq mode (codes "activity")) toggles refl ∙ work-other mode operand run load
+
+pub work-last : (mode operand : List ℕ) (activity : Bool) → bytes_eq mode (codes "run") ≡ false → bytes_eq mode (codes "workload") ≡ false → bytes_eq mode (codes "toggles") ≡ false
+    → bytes_eq mode (codes "activity") ≡ activity → cond activity (work_as (Activity operand)) no_work ≡ work_of (Some mode) operand
+work-last mode operand activity run load toggles is = work-reports mode operand false activity toggles is ∙ work-other mode operand run load
 
 -- ---- the work, where it takes the options
 

@@ -12,6 +12,8 @@ pub data Work : Type 0 where
   Workload : ℕ → Work
   -- the report on the dump of a name: how often its variables rise and fall
   Toggles : List ℕ → Work
+  -- the run of the file of a name, for the report on its own dump
+  Activity : List ℕ → Work
 
 -- what is to be done, for how many steps at most, in which order, and whether the counts of the run are wanted; where nothing is run
 -- these are the usual ones
@@ -27,6 +29,7 @@ work_in mode operand =
     if bytes_eq mode (codes "run") then Some (File operand)
     else if bytes_eq mode (codes "workload") then option_map Workload (decimal_of 4 1 2000 operand)
     else if bytes_eq mode (codes "toggles") then Some (Toggles operand)
+    else if bytes_eq mode (codes "activity") then Some (Activity operand)
     else None
 
 -- by default the operand is a file
@@ -38,11 +41,13 @@ work_of (Some mode) operand = work_in mode operand
 abbrev pub speaks_of_run : Given → Bool
 speaks_of_run given = is_some given.events || is_some given.order || given.stats
 
--- whether a work takes the options that were given: a report takes none that speaks of a run
+-- whether a work takes the options that were given: the report on a dump takes none that speaks of a run, and the report on the dump of a
+-- run no counts
 abbrev pub takes : Given → Work → Bool
 takes given (File name) = true
 takes given (Workload size) = true
 takes given (Toggles name) = not (speaks_of_run given)
+takes given (Activity name) = not given.stats
 
 -- the work that the words say, where it takes their options
 unfoldable pub work_given : Given → Option Work

@@ -18,6 +18,8 @@ pub enum Work<'a> {
     Workload(u32),
     /// The report on the dump of this name: how often its variables rise and fall.
     Toggles(&'a [u8]),
+    /// The run of the file of this name, for the report on its own dump.
+    Activity(&'a [u8]),
 }
 
 /// What the words say.
@@ -53,6 +55,9 @@ fn work_of<'a>(mode: Option<&'a str>, operand: &'a str) -> Option<Work<'a>>
     if mode == "toggles" {
         return Some(Work::Toggles(operand.as_bytes()));
     }
+    if mode == "activity" {
+        return Some(Work::Activity(operand.as_bytes()));
+    }
     None
 }
 
@@ -63,13 +68,15 @@ fn speaks_of_run(given: &Given) -> bool
     given.events.is_some() || given.order.is_some() || given.stats
 }
 
-// Whether a work takes the options that were given: a report takes none that speaks of a run.
+// Whether a work takes the options that were given: the report on a dump takes none that speaks of a run, and the report on the
+// dump of a run no counts.
 fn takes(given: &Given, work: &Work) -> bool
     ensures { result ≡ takes (seen_given given.now) (seen_work work.now) }
 {
     match work {
         Work::File(_) | Work::Workload(_) => true,
         Work::Toggles(_) => !speaks_of_run(given),
+        Work::Activity(_) => !given.stats,
     }
 }
 

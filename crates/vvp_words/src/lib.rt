@@ -1,5 +1,5 @@
 //! The words of the command line: the run of a file or of a workload, with a budget of steps, an order, and whether its counts
-//! are wanted; or the report on a dump. What the words say is what the library `clap` promises for one simple command, and then the rules on digits, ranges
+//! are wanted; or the report on a dump, or on the dump of a run. What the words say is what the library `clap` promises for one simple command, and then the rules on digits, ranges
 //! and modes.
 #![tactic(auto)]
 

@@ -11,7 +11,7 @@ type Row = (&'static str, Option<(Work<'static>, u32, u32, bool)>);
 const USUAL: u32 = 10_000_000;
 
 #[rattlefmt::skip]
-const ROWS: [Row; 53] = [
+const ROWS: [Row; 58] = [
     ("a", Some((Work::File(b"a"), USUAL, 0, false))),
     ("run", Some((Work::File(b"run"), USUAL, 0, false))),
     ("", Some((Work::File(b""), USUAL, 0, false))),
@@ -32,6 +32,8 @@ const ROWS: [Row; 53] = [
     ("--mode workload 2000 --order 3", Some((Work::Workload(2_000), USUAL, 3, false))),
     ("--mode toggles a", Some((Work::Toggles(b"a"), USUAL, 0, false))),
     ("a --mode=toggles", Some((Work::Toggles(b"a"), USUAL, 0, false))),
+    ("--mode activity a", Some((Work::Activity(b"a"), USUAL, 0, false))),
+    ("a --mode=activity --order 3 --events 7", Some((Work::Activity(b"a"), 7, 3, false))),
     ("--stats", None),
     ("a b", None),
     ("a --stats --stats", None),
@@ -65,6 +67,9 @@ const ROWS: [Row; 53] = [
     ("--mode toggles a --events 10000000", None),
     ("--mode toggles a --order 0", None),
     ("a --order x --mode toggles", None),
+    ("--mode activity", None),
+    ("--mode activity a --stats", None),
+    ("--mode activities a", None),
 ];
 
 fn words_of(alloc: Global, text: &str) -> Result<Vec<String>, AllocError> {
@@ -80,6 +85,7 @@ fn same_work(found: Work, wanted: Work) -> bool {
         (Work::File(name), Work::File(other)) => name == other,
         (Work::Workload(size), Work::Workload(other)) => size == other,
         (Work::Toggles(name), Work::Toggles(other)) => name == other,
+        (Work::Activity(name), Work::Activity(other)) => name == other,
         _ => false,
     }
 }

@@ -11,7 +11,7 @@ pub(super) struct Row {
 }
 
 /// How many parts the rows have: a table that is large makes each goal in which it stands large.
-pub(super) const PARTS: usize = 12;
+pub(super) const PARTS: usize = 13;
 
 /// A part of the rows.
 pub(super) fn part(index: usize) -> &'static [Row] {
@@ -27,7 +27,8 @@ pub(super) fn part(index: usize) -> &'static [Row] {
         8 => part_9(),
         9 => part_10(),
         10 => part_11(),
-        _ => part_12(),
+        11 => part_12(),
+        _ => part_13(),
     }
 }
 
@@ -648,5 +649,60 @@ const PART_12: &[Row] = &[
         status: 8,
         out: b"",
         errs: Some(b"vvp: no such file~"),
+    },
+];
+
+fn part_13() -> &'static [Row] {
+    PART_13
+}
+
+const PART_13: &[Row] = &[
+    Row {
+        name: "activity",
+        words: &["--mode", "activity", "a"],
+        source: b":vpi_time_precision - 9;~S_1 .scope module, \"tb\" \"tb\" 1 1;~a_0 .var \"a\", 0 0;~v_0 .var \"v\", 3 0;~T_0 ;~ %vpi_call 1 1 \"$dumpfile\", \"d\" {0 0 0};~ %vpi_call 1 1 \"$dumpvars\" {0 0 0};~ %pushi/vec4 0, 0, 1;~ %store/vec4 a_0, 0, 1;~ %pushi/vec4 7, 6, 4;~ %store/vec4 v_0, 0, 4;~ %delay 1, 0;~ %pushi/vec4 1, 0, 1;~ %store/vec4 a_0, 0, 1;~ %pushi/vec4 0, 0, 1;~ %store/vec4 a_0, 0, 1;~ %pushi/vec4 13, 12, 4;~ %store/vec4 v_0, 0, 4;~ %delay 1, 0;~ %pushi/vec4 0, 0, 4;~ %store/vec4 v_0, 0, 4;~ %end;~ .thread T_0;~",
+        status: 0,
+        out: b"tb.a 0 0~tb.v 0 1~",
+        errs: Some(b""),
+    },
+    Row {
+        name: "activity_trap",
+        words: &["--mode", "activity", "a"],
+        source: b"S_1 .scope module, \"tb\" \"tb\" 1 1;~a_0 .var \"a\", 0 0;~T_0 ;~ %vpi_call 1 1 \"$dumpvars\" {0 0 0};~ %pushi/vec4 0, 0, 1;~ %store/vec4 a_0, 0, 1;~ %delay 1, 0;~ %vpi_call 1 1 \"$display\", \"hello\" {0 0 0};~ %pushi/vec4 1, 0, 1;~ %store/vec4 a_0, 0, 1;~ %delay 1, 0;~ %pushi/vec4 0, 0, 1;~ %store/vec4 a_0, 0, 1;~ %delay 1, 0;~ %add;~ .thread T_0;~",
+        status: 4,
+        out: b"tb.a 1 1~",
+        errs: Some(b"vvp: trap StackUnder at 11~"),
+    },
+    Row {
+        name: "activity_spent",
+        words: &["--events", "12", "--mode", "activity", "a"],
+        source: b"S_1 .scope module, \"tb\" \"tb\" 1 1;~a_0 .var \"a\", 0 0;~T_0 ;~ %vpi_call 1 1 \"$dumpvars\" {0 0 0};~ %pushi/vec4 0, 0, 1;~ %store/vec4 a_0, 0, 1;~ %delay 1, 0;~ %vpi_call 1 1 \"$display\", \"hello\" {0 0 0};~ %pushi/vec4 1, 0, 1;~ %store/vec4 a_0, 0, 1;~ %delay 1, 0;~ %pushi/vec4 0, 0, 1;~ %store/vec4 a_0, 0, 1;~ %delay 1, 0;~ %add;~ .thread T_0;~",
+        status: 3,
+        out: b"tb.a 1 0~",
+        errs: Some(b"vvp: budget spent~"),
+    },
+    Row {
+        name: "activity_no_dump",
+        words: &["--order", "1", "--mode", "activity", "a"],
+        source: b"S_1 .scope module, \"m\" \"m\" 1 1;~T_0 ;~ %vpi_call 1 1 \"$display\", \"Hello\" {0 0 0};~ %end;~ .thread T_0;~",
+        status: 0,
+        out: b"",
+        errs: Some(b""),
+    },
+    Row {
+        name: "activity_bad_name",
+        words: &["--mode", "activity", "a"],
+        source: b"S_1 .scope module, \"m\" \"m\" 1 1;~a_0 .var \"a b\", 0 0;~",
+        status: 2,
+        out: b"",
+        errs: Some(b"vvp: line 0: bad name~"),
+    },
+    Row {
+        name: "activity_stats",
+        words: &["--stats", "--mode", "activity", "a"],
+        source: b"S_1 .scope module, \"m\" \"m\" 1 1;~T_0 ;~ %vpi_call 1 1 \"$display\", \"Hello\" {0 0 0};~ %end;~ .thread T_0;~",
+        status: 1,
+        out: b"",
+        errs: Some(b"vvp: bad words~"),
     },
 ];

@@ -8,6 +8,7 @@ loop-done-init g c = record {
   stands = λ machine is. stands-start machine _ refl is;
   ready = λ none. absurd (let never : ⊥ = cc in never);
   going = c.requires.going;
+  within = omega arith;
   steps = omega (arith, c.requires.steps);
   program = refl;
   order = refl;
@@ -17,12 +18,14 @@ loop-done-init g c = record {
 
 pub loop-done-preserved : goal.loop-done-preserved
 loop-done-preserved g c =
-    let goes = c.in-Ok.ensures.goes in
+    let turns = c.in-Ok.ensures.turns in
+    let goes = turns.goes in
     record {
-      stands = λ machine is. stands-next c.args.engine.now.program c.loop-done.engine.program c.args.engine.now.order c.loop-done.engine.order c.loop-done._done machine _ _ _ c.loop-done.invariant.program c.loop-done.invariant.order
-          (c.loop-done.invariant.stands machine is) goes.moved;
+      stands = λ machine is. stands-next c.args.engine.now.program c.loop-done.engine.program c.args.engine.now.order c.loop-done.engine.order c.loop-done.done turns.count c.in-Ok.turned.0 machine _ _ _
+          c.loop-done.invariant.program c.loop-done.invariant.order turns.told (c.loop-done.invariant.stands machine is) goes.moved;
       ready = goes.ready;
       going = sym c.in-Ok.ensures.answer ∙ c.in-None.is;
+      within = omega (arith, turns.told, turns.within);
       steps = omega (arith, c.in-Ok.ensures.counted, c.loop-done.invariant.steps);
       program = goes.program ∙ c.loop-done.invariant.program;
       order = goes.order ∙ c.loop-done.invariant.order;
@@ -32,37 +35,40 @@ loop-done-preserved g c =
 
 pub returns-in-Err-clause-cut : goal.returns-in-Err-clause-cut
 returns-in-Err-clause-cut g c = λ machine is.
-    let within : c.loop-done._done + 1 ≤ c.args.budget = omega arith in
-    cut-next c.args.engine.now.program c.loop-done.engine.program c.args.engine.now.order c.loop-done.engine.order c.loop-done._done c.args.budget machine _ _ _ c.loop-done.invariant.program c.loop-done.invariant.order within
-    (c.loop-done.invariant.stands machine is) c.in-Err.ensures.goes.cut
+    let turns = c.in-Err.ensures.turns in
+    let within : c.loop-done.done + turns.count ≤ c.args.budget = omega (arith, turns.within) in
+    cut-next c.args.engine.now.program c.loop-done.engine.program c.args.engine.now.order c.loop-done.engine.order c.loop-done.done turns.count c.args.budget machine _ _ _ c.loop-done.invariant.program c.loop-done.invariant.order within
+    (c.loop-done.invariant.stands machine is) turns.goes.cut
 
 pub returns-in-Some-clause-done : goal.returns-in-Some-clause-done
 returns-in-Some-clause-done g c =
-    let within : c.loop-done._done + 1 ≤ c.args.budget = omega arith in
+    let turns = c.in-Ok.ensures.turns in
+    let within : c.loop-done.done + c.in-Ok.turned.0 ≤ c.args.budget = omega (arith, turns.told, turns.within) in
     on_ok_both c.close.result (λ moved done. λ machine is.
-    let there = stands-next c.args.engine.now.program c.loop-done.engine.program c.args.engine.now.order c.loop-done.engine.order c.loop-done._done machine _ _ _ c.loop-done.invariant.program c.loop-done.invariant.order
-    (c.loop-done.invariant.stands machine is) c.in-Ok.ensures.goes.moved in
-    done-early c.args.engine.now.program c.args.engine.now.order (c.loop-done._done + 1) c.args.budget c.in-Some.ending machine _ _ _ within (sym c.in-Ok.ensures.answer ∙ c.in-Some.is) there (moved _ _ there) (done _ _ there))
+    let there = stands-next c.args.engine.now.program c.loop-done.engine.program c.args.engine.now.order c.loop-done.engine.order c.loop-done.done turns.count c.in-Ok.turned.0 machine _ _ _
+    c.loop-done.invariant.program c.loop-done.invariant.order turns.told (c.loop-done.invariant.stands machine is) turns.goes.moved in
+    done-early c.args.engine.now.program c.args.engine.now.order (c.loop-done.done + c.in-Ok.turned.0) c.args.budget c.in-Some.ending machine _ _ _ within (sym c.in-Ok.ensures.answer ∙ c.in-Some.is) there (moved _ _ there) (done _ _ there))
     c.close.ensures.goes.moved c.close.ensures.done
 
 pub returns-in-Some-clause-cut : goal.returns-in-Some-clause-cut
 returns-in-Some-clause-cut g c =
-    let within : c.loop-done._done + 1 ≤ c.args.budget = omega arith in
+    let turns = c.in-Ok.ensures.turns in
+    let within : c.loop-done.done + c.in-Ok.turned.0 ≤ c.args.budget = omega (arith, turns.told, turns.within) in
     on_err_one c.close.result (λ cut. λ machine is.
-    let there = stands-next c.args.engine.now.program c.loop-done.engine.program c.args.engine.now.order c.loop-done.engine.order c.loop-done._done machine _ _ _ c.loop-done.invariant.program c.loop-done.invariant.order
-    (c.loop-done.invariant.stands machine is) c.in-Ok.ensures.goes.moved in
-    cut-early c.args.engine.now.program c.args.engine.now.order (c.loop-done._done + 1) c.args.budget machine _ _ within (cut _ _ there)) c.close.ensures.goes.cut
+    let there = stands-next c.args.engine.now.program c.loop-done.engine.program c.args.engine.now.order c.loop-done.engine.order c.loop-done.done turns.count c.in-Ok.turned.0 machine _ _ _
+    c.loop-done.invariant.program c.loop-done.invariant.order turns.told (c.loop-done.invariant.stands machine is) turns.goes.moved in
+    cut-early c.args.engine.now.program c.args.engine.now.order (c.loop-done.done + c.in-Ok.turned.0) c.args.budget machine _ _ within (cut _ _ there)) c.close.ensures.goes.cut
 
 pub returns-clause-done : goal.returns-clause-done
 returns-clause-done g c =
-    let all : c.loop-done._done ≡ c.args.budget = omega arith in
+    let all : c.loop-done.done ≡ c.args.budget = omega arith in
     on_ok_both c.end_run.result (λ moved done. λ machine is.
-    done-last c.args.engine.now.program c.loop-done.engine.program c.args.engine.now.order c.loop-done._done c.args.budget machine _ _ _ c.loop-done.invariant.program all (c.loop-done.invariant.stands machine is) moved done)
+    done-last c.args.engine.now.program c.loop-done.engine.program c.args.engine.now.order c.loop-done.done c.args.budget machine _ _ _ c.loop-done.invariant.program all (c.loop-done.invariant.stands machine is) moved done)
     c.end_run.ensures.goes.moved c.end_run.ensures.done
 
 pub returns-clause-cut : goal.returns-clause-cut
 returns-clause-cut g c =
-    let all : c.loop-done._done ≡ c.args.budget = omega arith in
+    let all : c.loop-done.done ≡ c.args.budget = omega arith in
     on_err_one c.end_run.result (λ cut. λ machine is.
-    cut-last c.args.engine.now.program c.loop-done.engine.program c.args.engine.now.order c.loop-done._done c.args.budget machine _ _ _ c.loop-done.invariant.program all (c.loop-done.invariant.stands machine is) cut)
+    cut-last c.args.engine.now.program c.loop-done.engine.program c.args.engine.now.order c.loop-done.done c.args.budget machine _ _ _ c.loop-done.invariant.program all (c.loop-done.invariant.stands machine is) cut)
     c.end_run.ensures.goes.cut

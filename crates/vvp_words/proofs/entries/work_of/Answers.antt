@@ -1,8 +1,8 @@
 use Rattle.std.proofs.Common.{ℕ, true, false, List, Option, Bor, sym, ap, ◌∙◌}
 use Rattle.std.specs.Prelude.{option_map}
 use Rattle.vvp_words.specs.Decimal.{decimal_of}
-use Rattle.vvp_words.specs.Entries.{File, Toggles, Workload, work_of}
-use Rattle.vvp_words.proofs.EntriesLemmas.{work_as, work-last, work-load, work-none, work-run}
+use Rattle.vvp_words.specs.Entries.{Activity, File, Toggles, Workload, work_of}
+use Rattle.vvp_words.proofs.EntriesLemmas.{work_as, work-last, work-load, work-none, work-run, work-toggles}
 use Rattle.vvp_words.proofs.entries.work_of.Goals as goal
 
 pub returns-in_default-clause-work : goal.returns-in_default-clause-work
@@ -31,10 +31,16 @@ returns-in-Some-decimal-clause-work c =
 pub returns-then-eq-3-clause-work : goal.returns-then-eq-3-clause-work
 returns-then-eq-3-clause-work c =
     ap (λ (name : List ℕ). work_as (Toggles name)) c.as_bytes-then-eq-3.ensures.value
-    ∙ work-last c.in-Some.mode.now c.args.operand.now true (sym c.eq.ensures ∙ c.if-eq.false) (sym c.eq-2.ensures ∙ c.if-eq-2.false) (sym c.eq-3.ensures ∙ c.if-eq-3.true)
+    ∙ work-toggles c.in-Some.mode.now c.args.operand.now (sym c.eq.ensures ∙ c.if-eq.false) (sym c.eq-2.ensures ∙ c.if-eq-2.false) (sym c.eq-3.ensures ∙ c.if-eq-3.true)
+    ∙ ap (λ (m : Option (Bor (List ℕ))). work_of (option_map (λ s. s.now) m) c.args.operand.now) (sym c.in-Some.is)
+
+pub returns-then-eq-4-clause-work : goal.returns-then-eq-4-clause-work
+returns-then-eq-4-clause-work c =
+    ap (λ (name : List ℕ). work_as (Activity name)) c.as_bytes-then-eq-4.ensures.value
+    ∙ work-last c.in-Some.mode.now c.args.operand.now true (sym c.eq.ensures ∙ c.if-eq.false) (sym c.eq-2.ensures ∙ c.if-eq-2.false) (sym c.eq-3.ensures ∙ c.if-eq-3.false) (sym c.eq-4.ensures ∙ c.if-eq-4.true)
     ∙ ap (λ (m : Option (Bor (List ℕ))). work_of (option_map (λ s. s.now) m) c.args.operand.now) (sym c.in-Some.is)
 
 pub returns-clause-work : goal.returns-clause-work
 returns-clause-work c =
-    work-last c.in-Some.mode.now c.args.operand.now false (sym c.eq.ensures ∙ c.if-eq.false) (sym c.eq-2.ensures ∙ c.if-eq-2.false) (sym c.eq-3.ensures ∙ c.if-eq-3.false)
+    work-last c.in-Some.mode.now c.args.operand.now false (sym c.eq.ensures ∙ c.if-eq.false) (sym c.eq-2.ensures ∙ c.if-eq-2.false) (sym c.eq-3.ensures ∙ c.if-eq-3.false) (sym c.eq-4.ensures ∙ c.if-eq-4.false)
     ∙ ap (λ (m : Option (Bor (List ℕ))). work_of (option_map (λ s. s.now) m) c.args.operand.now) (sym c.in-Some.is)
