@@ -13,7 +13,7 @@ use Rattle.gate_rules.specs.Ports.{there, widths}
 use Rattle.gate_rules.specs.Evaluable.{HaveWidth}
 use Rattle.gate_rules.proofs.PortLemmas.{each_width, port_fits, some_there}
 use Rattle.gate_rules.specs.Rows.{bits_at, folded, buffered_bit, identity}
-use Rattle.gate_rules.specs.Tables.{table_of, unit_of, with_port, with_next}
+use Rattle.gate_rules.specs.Tables.{IsAll, table_of, unit_of, with_port, with_next}
 use Rattle.gate_rules.specs.declared.fold.Table.{Table}
 use Rattle.gate_rules.specs.declared.fold.Table.TheVariants as which
 
@@ -156,6 +156,36 @@ two-ports t w (o ∷ []) p q r s a b e all i j k l x y z v = absurd (omega (arit
 two-ports t w (o ∷ o' ∷ []) p q r s a b e all i j k l x y z v = absurd (omega (arith, e))
 two-ports t w (o ∷ o' ∷ o'' ∷ []) p q r s a b e all i j k l x y z v = absurd (omega (arith, e))
 two-ports t w (o ∷ o' ∷ o'' ∷ u ∷ u' ∷ rest) p q r s a b e all i j k l x y z v = absurd (omega (arith, e))
+
+-- ---- two ports beside those that add nothing
+
+unit-kept : (t : Table) → table_of t (unit_of t) (unit_of t) ≡ unit_of t
+unit-kept which.And = refl
+unit-kept which.Or = refl
+unit-kept which.Xor = refl
+
+units-kept : (t : Table) (w : ℕ) → at_each_place (table_of t) (replicate w (unit_of t)) (replicate w (unit_of t)) ≡ replicate w (unit_of t)
+unfolding at_each_place
+units-kept t zero = refl
+units-kept t (suc w) = rw (unit-kept t, units-kept t w) refl
+
+idle-port : (t : Table) (w : ℕ) (port : Option (List Bit)) (ports : List (Option (List Bit))) → IsAll (unit_of t) w port → folded (table_of t) (unit_of t) w (there ports) ≡ replicate w (unit_of t)
+    → folded (table_of t) (unit_of t) w (there (port ∷ ports)) ≡ replicate w (unit_of t)
+idle-port t w None ports idle rest = rest
+idle-port t w (Some bits) ports idle rest =
+    folded-cons (table_of t) (unit_of t) w bits (there ports) (ap length idle ∙ length-replicate w (unit_of t))
+    ∙ ap (at_each_place (table_of t) bits) rest
+    ∙ ap (λ (b : List Bit). at_each_place (table_of t) b (replicate w (unit_of t))) idle
+    ∙ units-kept t w
+
+pub two-idle : (t : Table) (a b : List Bit) (third fourth : Option (List Bit)) → length a ≡ length b → IsAll (unit_of t) (length a) third → IsAll (unit_of t) (length a) fourth
+    → at_each_place (table_of t) a b ≡ folded (table_of t) (unit_of t) (length a) (there (Some a ∷ Some b ∷ third ∷ fourth ∷ []))
+two-idle t a b third fourth same idle_third idle_fourth =
+    let w : ℕ = length a in
+    let none : folded (table_of t) (unit_of t) w (there (third ∷ fourth ∷ [])) ≡ replicate w (unit_of t) = idle-port t w third (fourth ∷ []) idle_third (idle-port t w fourth [] idle_fourth (folded-nil (table_of t) (unit_of t) w)) in
+    sym (folded-cons (table_of t) (unit_of t) w a (b ∷ there (third ∷ fourth ∷ [])) refl
+    ∙ ap (at_each_place (table_of t) a) (folded-cons (table_of t) (unit_of t) w b (there (third ∷ fourth ∷ [])) (sym same) ∙ ap (at_each_place (table_of t) b) (none ∙ ap (λ n. replicate n (unit_of t)) same))
+    ∙ absorbed t a b same)
 
 -- ---- drivers of one strength
 

@@ -1,6 +1,7 @@
 //! Gates evaluated on levels, and on strong bits.
 
-ghost use Rattle.std.specs.Prelude.{◌≡◌, ℕ, ◌≤◌, length, map, sum, flat_map, IsTrue, IsSome, IfSome};
+ghost use Rattle.std.specs.Prelude.{◌≡◌, ℕ, ◌≤◌, true, Option, List, [], ◌∷◌, Some, length, map, sum, flat_map, IsTrue, IsSome, IfSome};
+ghost use Rattle.four_state.specs.declared.bits.Bit.{Bit};
 ghost use Rattle.four_state.specs.Bit.{resolve_bit};
 ghost use Rattle.strengths.specs.Level.{driven};
 ghost use Rattle.strengths.specs.Resolver.{joined, resolved_by};
@@ -8,7 +9,7 @@ ghost use Rattle.gate_rules.specs.Evaluable.{IsEvaluable, HaveWidth};
 ghost use Rattle.gate_rules.specs.Output.{output};
 ghost use Rattle.gate_rules.specs.Ports.{there, widths, width_at, driven_ports};
 ghost use Rattle.gate_rules.specs.Strong.{keeps_strong, resolves_strongly};
-ghost use Rattle.gate_rules.specs.Tables.{with_next};
+ghost use Rattle.gate_rules.specs.Tables.{has_table, IsIdle, with_next};
 
 use crate::fold::Table;
 use crate::look::looked;
@@ -96,6 +97,50 @@ fn eval_other(gate: &Gate, width: u8, ports: &[Option<Vec4>]) -> Vec4
         Gate::Repeat { count } => bits_repeated(bits_at(ports, 0), *count),
         Gate::Extend => bits_extended(bits_at(ports, 0), width),
         _ => looked(gate, width, ports),
+    }
+}
+
+/// Whether a gate folds a table over its ports, or negates what that gives: AND, OR, XOR and their negations (IEEE
+/// 1364-2005, 7.2). `eval_two` evaluates those that have two ports.
+#[inline]
+pub fn has_table(gate: &Gate) -> bool
+    ensures { result ≡ has_table gate.now }
+{
+    match gate {
+        Gate::And | Gate::Or | Gate::Xor | Gate::Nand | Gate::Nor | Gate::Xnor => true,
+        _ => false,
+    }
+}
+
+/// Whether these bits, at a port, add nothing to what the table of a gate makes of two others: all are what it makes of
+/// no bits, 1 for AND and its negation, else 0.
+pub fn is_idle(gate: &Gate, bits: Vec4) -> bool
+    ensures { result ≡ true → IsIdle gate.now (length bits) (Some bits) }
+{
+    let unit = match gate {
+        Gate::And | Gate::Nand => Bit::One,
+        _ => Bit::Zero,
+    };
+    bits.eeq(Vec4::splat(unit, bits.width()))
+}
+
+/// `eval_strong` of a gate with a table whose first two ports have these bits and whose others add nothing to them.
+#[inline]
+pub fn eval_two(gate: &Gate, left: Vec4, right: Vec4) -> Vec4
+    requires table { IsTrue (has_table gate.now) }
+    requires same_width { length left ≡ length right }
+    ensures value { (s0 s1 : ℕ) (third fourth : Option (List Bit)) → IsIdle gate.now (length left) third → IsIdle gate.now (length left) fourth → IsTrue (keeps_strong gate.now s0 s1)
+        → output gate.now (length left) s0 s1 (driven_ports 6 6 (Some left ∷ Some right ∷ third ∷ fourth ∷ [])) ≡ map (driven 6 6) result }
+    ensures width { length result ≡ length left }
+{
+    match gate {
+        Gate::And => Table::And.of_two(left, right),
+        Gate::Or => Table::Or.of_two(left, right),
+        Gate::Xor => Table::Xor.of_two(left, right),
+        Gate::Nand => Table::And.of_two(left, right).not(),
+        Gate::Nor => Table::Or.of_two(left, right).not(),
+        Gate::Xnor => Table::Xor.of_two(left, right).not(),
+        _ => unreachable!(),
     }
 }
 

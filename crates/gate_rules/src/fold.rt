@@ -31,7 +31,7 @@ impl Table {
 
     /// What the table makes of two vectors, place by place.
     #[inline(always)]
-    fn of_two(self, left: Vec4, right: Vec4) -> Vec4
+    pub(crate) fn of_two(self, left: Vec4, right: Vec4) -> Vec4
         requires { length left ≡ length right }
         ensures { result ≡ at_each_place (table_of self) left right }
     {

@@ -26,3 +26,4 @@ pub mod CallLemmas
 pub mod BuildLemmas
 pub mod TestLemmas
 mod WholeLemmas
+pub mod PairLemmas

@@ -7,3 +7,4 @@ pub mod Slots
 pub mod Parts
 pub mod Built
 pub mod Outputs
+pub mod Pairs

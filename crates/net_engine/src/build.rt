@@ -12,6 +12,7 @@ ghost use Rattle.net_engine.specs.Slots.{HasPlaces, helds};
 ghost use Rattle.net_engine.specs.Built.{first_levels, first_slot, first_place, IsFirst, IsSized, AreEvents, events_of, is_last, once, IsListing};
 
 use crate::design::{Design, Row};
+use crate::pairs::pairs_of;
 use crate::slot::Slot;
 use crate::store::{Request, Store, Words};
 use four_state::{Bit, Vec4};
@@ -103,7 +104,7 @@ fn copy_kind(alloc: Global, kind: &ItemKind) -> Result<ItemKind, AllocError>
 fn rows_of(alloc: Global, items: &[Item]) -> Result<Vec<Row>, AllocError>
     ensures { IfOk result (λ rows. rows.items ≡ map node_of items.now) }
 {
-    let mut rows = Vec::new(alloc);
+    let mut rows = Vec::with_capacity(alloc, items.len())?;
     'items: for i in 0..items.len() {
         rows.push(Row {
             width: items[i].width,
@@ -169,7 +170,7 @@ fn list_item(listeners: &mut [Numbers], item: u32, kind: &ItemKind) -> Result<()
 fn no_listeners(alloc: Global, count: usize) -> Result<Vec<Numbers>, AllocError>
     ensures { IfOk result (λ lists. lists.items ≡ replicate count []) }
 {
-    let mut listeners = Vec::new(alloc);
+    let mut listeners = Vec::with_capacity(alloc, count)?;
     'items: for _at in 0..count {
         listeners.push(Numbers::new(alloc))?;
     }
@@ -202,8 +203,9 @@ pub(crate) fn design_of<F: Fanout + Drop>(
 {
     let items = program.items.as_slice();
     let rows = rows_of(alloc, items)?;
+    let pairs = pairs_of(alloc, rows.as_slice())?;
     let listeners = all_listeners(alloc, items)?;
-    Ok(Design::new(fan, rows, listeners))
+    Ok(Design::new(fan, rows, listeners, pairs))
 }
 
 // What drives an item before anything has happened: x, by the strengths that it drives with.
@@ -262,7 +264,7 @@ fn all_slots(alloc: Global, items: &[Item]) -> Result<Vec<Option<Slot>>, AllocEr
     ensures values { IfOk result (λ slots. helds slots.items (map first_place (map node_of items.now)) ≡ map first_slot (map node_of items.now)) }
     ensures places { IfOk result (λ slots. All HasPlaces (map first_slot (map node_of items.now))) }
 {
-    let mut slots = Vec::new(alloc);
+    let mut slots = Vec::with_capacity(alloc, items.len())?;
     'items: for i in 0..items.len() {
         slots.push(first_slot(alloc, &items[i])?)?;
     }
@@ -274,7 +276,7 @@ fn all_words(alloc: Global, items: &[Item]) -> Result<Vec<Words>, AllocError>
     requires { All (λ item. IsSized (node_of item)) items.now }
     ensures { IfOk result (λ words. words.items ≡ map (λ node. first_words node node.what) (map node_of items.now)) }
 {
-    let mut words = Vec::new(alloc);
+    let mut words = Vec::with_capacity(alloc, items.len())?;
     'items: for i in 0..items.len() {
         words.push(first_words(alloc, &items[i])?)?;
     }
@@ -308,7 +310,7 @@ fn place_widths(alloc: Global, items: &[Item]) -> Result<Vec<u8>, AllocError>
     ensures least { IfOk result (λ widths. All (λ width. 1 ≤ width) widths.items) }
     ensures most { IfOk result (λ widths. All (λ width. width ≤ 128) widths.items) }
 {
-    let mut widths = Vec::new(alloc);
+    let mut widths = Vec::with_capacity(alloc, items.len())?;
     'items: for i in 0..items.len() {
         widths.push(place_width(&items[i]))?;
     }
@@ -369,7 +371,7 @@ pub(crate) fn marks_of(alloc: Global, program: &Program) -> Result<Vec<bool>, Al
     ensures { IfOk result (λ marks. marks.items ≡ map (λ node. has_output node.what) (nodes_of program.now)) }
 {
     let items = program.items.as_slice();
-    let mut marks = Vec::new(alloc);
+    let mut marks = Vec::with_capacity(alloc, items.len())?;
     'items: for i in 0..items.len() {
         marks.push(has_output(&items[i].what))?;
     }

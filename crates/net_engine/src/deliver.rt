@@ -121,6 +121,7 @@ fn deliver<F: Fanout + Drop, A: Agenda>(
 }
 
 /// What follows from a change of an item, if it changed.
+#[inline(always)]
 pub(crate) fn follow<F: Fanout + Drop, A: Agenda>(
     design: &Design<F>,
     marks: &mut [bool],

@@ -1,10 +1,11 @@
 //! What a run knows of the items of a design, and which inputs each one drives.
 
-ghost use Rattle.std.specs.Prelude.{◌≡◌, ℕ, ◌<◌, Some, length, Contains, slice_get};
+ghost use Rattle.std.specs.Prelude.{◌≡◌, ℕ, ◌<◌, Some, IfSome, length, Contains, slice_get};
 ghost use Rattle.port_chain.specs.Pairs.{link_at, IsAfter, AreDistinctPorts};
 ghost use Rattle.sym_link.specs.Roots.{Node, kind_of, root_of};
 ghost use Rattle.net_engine.specs.Readers.{driven_ports, listeners_of};
 ghost use Rattle.net_engine.specs.Parts.{IsDesign};
+ghost use Rattle.net_engine.specs.Pairs.{IsPair, ArePairs};
 
 use port_chain::{Fanout, Link};
 use std::marker::Model;
@@ -33,30 +34,40 @@ pub(crate) struct Design<F: Fanout + Drop> {
     rows: Vec<Row>,
     // Of each item the events that list it, in file order.
     listeners: Vec<Numbers>,
+    // Of each gate that drives strongly what its table makes of the values of two items, these items.
+    pairs: Vec<Option<(u32, u32)>>,
 }
 
 impl<F: Fanout + Drop> Model for Design<F> {
     ghost use Rattle.std.specs.Prelude.{List};
     ghost use Rattle.sym_link.specs.Roots.{Node};
     ghost use Rattle.net_engine.specs.Parts.{IsDesign};
+    ghost use Rattle.net_engine.specs.Pairs.{ArePairs};
 
     ghost Value = { List Node };
 
     ghost view = { λ d. d.rows.items };
 
-    ghost invariant = { λ d. IsDesign (F.nodes d.fan) (F.pairs d.fan) d.listeners.items d.rows.items };
+    ghost invariant = { λ d. IsDesign (F.nodes d.fan) (F.pairs d.fan) d.listeners.items d.rows.items × ArePairs d.rows.items d.pairs.items };
 }
 
 impl<F: Fanout + Drop> Design<F> {
     /// The design of these items.
-    pub(crate) fn new(fan: F, rows: Vec<Row>, listeners: Vec<Numbers>) -> Design<F>
-        requires { IsDesign (F.nodes fan) (F.pairs fan) listeners.items rows.items }
+    pub(crate) fn new(
+        fan: F,
+        rows: Vec<Row>,
+        listeners: Vec<Numbers>,
+        pairs: Vec<Option<(u32, u32)>>,
+    ) -> Design<F>
+        requires design { IsDesign (F.nodes fan) (F.pairs fan) listeners.items rows.items }
+        requires pairs { ArePairs rows.items pairs.items }
         ensures { result ≡ rows.items }
     {
         Design {
             fan,
             rows,
             listeners,
+            pairs,
         }
     }
 
@@ -74,6 +85,14 @@ impl<F: Fanout + Drop> Design<F> {
         ensures { kind_of self.now item ≡ Some result.now }
     {
         &self.rows[item as usize].what
+    }
+
+    /// The two items whose values a gate's table joins, where it has these alone and drives strongly.
+    pub(crate) fn pair(&self, item: u32) -> Option<(u32, u32)>
+        requires { item < length self.now }
+        ensures { IfSome result (λ pair. IsPair self.now (kind_of self.now item) pair.0 pair.1) }
+    {
+        self.pairs[item as usize]
     }
 
     /// The item whose value an item shows.

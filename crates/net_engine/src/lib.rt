@@ -12,6 +12,7 @@ mod design;
 mod edges;
 mod net;
 mod outputs;
+mod pairs;
 mod readers;
 mod slot;
 mod store;

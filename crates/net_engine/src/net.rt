@@ -16,7 +16,7 @@ ghost use Rattle.net_engine.specs.Parts.{plane_of, HasLevels, HasValue, AreWide,
 use crate::build::{design_of, marks_of, store_of};
 use crate::deliver::{follow, trigger};
 use crate::design::Design;
-use crate::outputs::{bits_output, is_told_by_bits, levels_output};
+use crate::outputs::{bits_output, is_told_by_bits, levels_output, pair_output};
 use crate::store::{Change, Request, Store};
 use crate::times::Times;
 use event_pool::{Act, Agenda, Due, Region};
@@ -161,6 +161,7 @@ impl<F: Fanout + Drop> Net<F> {
     }
 
     // An item is driven with other bits, as a variable is driven.
+    #[inline(always)]
     fn change_bits<A: Agenda>(
         &mut self,
         item: u32,
@@ -290,8 +291,25 @@ impl<F: Fanout + Drop> Net<F> {
         }
     }
 
-    // A gate that is marked no more is evaluated.
+    // A gate that is marked no more is evaluated. Most have the values of two items at their ports and no more.
     fn eval_gate<A: Agenda>(&mut self, item: u32, agenda: &mut A, threads: &mut Threads)
+        requires fits { Fits self.old threads.old (A.schedule agenda.old) }
+        requires gate { IsGateKind (kind_of self.old.nodes item) }
+        ensures state { Delivers (eval self.old.nodes item) self.old self.new threads.old threads.new (A.schedule agenda.old) (A.schedule agenda.new) }
+        ensures requests { self.new.values.requests ≡ self.old.values.requests }
+    {
+        match self.design.pair(item) {
+            Some((left, right)) => {
+                let bits = pair_output(&self.design, &self.store, item, left, right);
+                self.change_bits(item, bits, agenda, threads);
+            }
+            None => self.eval_ports(item, agenda, threads),
+        }
+    }
+
+    // The same for each gate. It stands out of line, so that a gate with two items pays nothing for it.
+    #[inline(never)]
+    fn eval_ports<A: Agenda>(&mut self, item: u32, agenda: &mut A, threads: &mut Threads)
         requires fits { Fits self.old threads.old (A.schedule agenda.old) }
         requires gate { IsGateKind (kind_of self.old.nodes item) }
         ensures state { Delivers (eval self.old.nodes item) self.old self.new threads.old threads.new (A.schedule agenda.old) (A.schedule agenda.new) }

@@ -7,11 +7,12 @@ ghost use Rattle.sym_link.specs.Roots.{Node, kind_of};
 ghost use Rattle.net_engine.specs.Net.{at_source, output_of, seen, strongly};
 ghost use Rattle.net_engine.specs.Parts.{IsLinked, AreWide, IsShowing, AreShowing, IsGateKind};
 ghost use Rattle.net_engine.specs.Outputs.{IsToldByBits};
+ghost use Rattle.net_engine.specs.Pairs.{IsPair};
 
 use crate::design::Design;
 use crate::store::Store;
 use four_state::{ResKind, Vec4};
-use gate_rules::{eval_gate, eval_strong};
+use gate_rules::{eval_gate, eval_strong, eval_two};
 use port_chain::Fanout;
 use strengths::{Vec8, drive};
 use sym_link::{ItemKind, Source, Sources};
@@ -200,6 +201,34 @@ pub(crate) fn bits_output<F: Fanout + Drop>(
             let width = design.width(item);
             put_all_bits(design, store, sources, ports);
             eval_strong(gate, width, ports)
+        }
+        _ => unreachable!(),
+    }
+}
+
+/// The bits that a gate drives, as a variable does, whose table joins the values of two items.
+pub(crate) fn pair_output<F: Fanout + Drop>(
+    design: &Design<F>,
+    store: &Store,
+    item: u32,
+    left: u32,
+    right: u32,
+) -> Vec4
+    requires linked { IsLinked design.now }
+    requires wide { AreWide design.now store.now }
+    requires pair { IsPair design.now (kind_of design.now item) left right }
+    ensures value { (node : Node) → slice_get design.now item ≡ Some node → strongly result ≡ output_of design.now store.now node }
+    ensures width { (node : Node) → slice_get design.now item ≡ Some node → length result ≡ node.width }
+{
+    match design.kind(item) {
+        ItemKind::Functor {
+            gate,
+            drive: _drive,
+            ports: _sources,
+        } => {
+            let low = sized_bits(store.bits(left));
+            let high = sized_bits(store.bits(right));
+            eval_two(gate, low, high)
         }
         _ => unreachable!(),
     }
