@@ -89,7 +89,7 @@ impl<A: Agenda + Drop, F: Fanout + Drop> Engine<A, F> {
     ///
     /// It stops before an opcode that asks more: one with an effect on the run, a trap, or one for which memory is wanting. None
     /// is done where no thread runs, after an ending, and once memory was wanting. Nothing is printed or dumped.
-    #[inline(never)]
+    #[inline(always)]
     pub fn run_on(&mut self, most: u32) -> u32
         requires { self.old.machine.steps + most ≤ 3 * 2 ^ 62 }
         ensures most { result ≤ most }
@@ -106,6 +106,24 @@ impl<A: Agenda + Drop, F: Fanout + Drop> Engine<A, F> {
         if !self.is_going() {
             return 0;
         }
+        self.run_far(most)
+    }
+
+    // The same where a thread runs. It stands out of line, so that a step without one pays nothing for it.
+    #[inline(never)]
+    fn run_far(&mut self, most: u32) -> u32
+        requires going { is_going self.old ≡ true }
+        requires at { (serial : ℕ) × (thread : Thread) × Runs self.old serial thread }
+        requires steps { self.old.machine.steps + most ≤ 3 * 2 ^ 62 }
+        ensures most { result ≤ most }
+        ensures follows { EngineFollows (after self.old.program self.old.order result) self.old self.new }
+        ensures only { self.new.machine ≡ record self.old.machine {
+          state = with_threads self.new.machine.state.threads self.old.machine.state;
+          steps = self.old.machine.steps + result;
+          peak = self.new.machine.peak;
+        } }
+        ensures none { result ≡ 0 → self.new ≡ self.old }
+    {
         let done = self.go_far(most);
         if done == 0 {
             return 0;
