@@ -299,12 +299,11 @@ impl<E: Copy> Pool<E> {
         ensures spare { self.new.spare + 1 ≡ self.old.spare }
     {
         let place = self.free;
-        self.free = self.slots[place].next;
+        let slot = &mut self.slots[place];
+        self.free = slot.next;
+        slot.item = Some(e);
+        slot.next = NONE;
         self.spare -= 1;
-        self.slots[place] = Slot {
-            item: Some(e),
-            next: NONE,
-        };
         let alone = Ends {
             head: place,
             tail: place,
@@ -323,20 +322,34 @@ impl<E: Copy> Pool<E> {
         ensures spare { OnSome result (self.new.spare ≡ self.old.spare + 1) }
         ensures none { IfNone result (self.new ≡ self.old) }
     {
-        let ends = self.ends[q as usize];
-        if ends.head == NONE {
+        if !self.has_any(q) {
             return None;
         }
+        Some(self.take_first(q))
+    }
+
+    // Takes the first item of a queue that has one, in constant time. Of its slot the next field alone is written.
+    fn take_first(&mut self, q: u32) -> E
+        requires queue { q < length self.old.queues }
+        requires some { 0 < length (queue_at self.old q) }
+        ensures item { slice_get (queue_at self.old q) 0 ≡ Some result }
+        ensures queues { self.new.queues ≡ with_queue self.old q (remove (queue_at self.old q) 0) }
+        ensures spare { self.new.spare ≡ self.old.spare + 1 }
+    {
+        let ends = self.ends[q as usize];
         let slot = &mut self.slots[ends.head];
-        let taken = *slot;
+        let next = slot.next;
         slot.next = self.free;
         self.ends[q as usize] = Ends {
-            head: taken.next,
+            head: next,
             tail: ends.tail,
         };
         self.free = ends.head;
         self.spare += 1;
-        taken.item
+        match self.slots[ends.head].item {
+            Some(item) => item,
+            None => unreachable!(),
+        }
     }
 
     /// Puts all items of one queue behind those of another, in constant time.
@@ -366,7 +379,7 @@ impl<E: Copy> Pool<E> {
         ensures spare { self.new.spare ≡ self.old.spare + 1 }
     {
         if k == 0 {
-            return self.pop_front(q).unwrap();
+            return self.take_first(q);
         }
         let ends = self.ends[q as usize];
         let before = place_after(&self.slots, ends.head, k - 1);

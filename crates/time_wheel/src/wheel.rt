@@ -128,12 +128,10 @@ impl Agenda for Wheel {
     }
 
     fn take_nth(&mut self, k: usize) -> Due {
-        let due = self.pool.take_at(ACTIVE, k);
+        let mut due = self.pool.take_at(ACTIVE, k);
         self.pending -= 1;
-        Due {
-            region: Region::Active,
-            ..due
-        }
+        due.region = Region::Active;
+        due
     }
 
     fn dues(&self, alloc: Global) -> Result<Dues, AllocError> {
