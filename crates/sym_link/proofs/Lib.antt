@@ -2,6 +2,7 @@ mod BoolLemmas
 mod ListLemmas
 mod GatherLemmas
 mod CountLemmas
+mod IndexLemmas
 mod CurrentLemmas
 mod WalkLemmas
 mod MarkLemmas

@@ -198,7 +198,7 @@ fn ranged(
 fn item_numbers(alloc: Global, file: &File<'_>, symbols: &[Name]) -> Result<Numbers, AllocError>
     ensures { (src : List ℕ) → (all : List Placed) → Knows src all file.now → IfOk result (λ numbers. numbers ≡ map (symbol_item src all) symbols.now) }
 {
-    let mut numbers = Numbers::new(alloc);
+    let mut numbers = Numbers::with_capacity(alloc, symbols.len())?;
     for symbol in symbols {
         numbers.push(file.item_of(*symbol))?;
     }
@@ -213,7 +213,7 @@ pub fn parent_of(file: &File<'_>, form: &Form) -> u32
         Form::Scope {
             within: Some(within),
             ..
-        } => file.scope_of(within.scope),
+        } => file.scope_of(within.get().scope),
         _ => NONE,
     }
 }
@@ -281,7 +281,7 @@ fn other_item(alloc: Global, nets: &Nets<'_>, place: u32, form: &Form, labelled:
         Form::Scope { name, .. } => {
             let number = file.counts_before(place).scopes;
             let parent = parent_of(file, form);
-            Ok(Some(named(alloc, name, parent, ItemKind::Scope(number))?))
+            Ok(Some(named(alloc, name.get(), parent, ItemKind::Scope(number))?))
         }
         Form::NamedEvent { name } => Ok(Some(named(alloc, name, scope, ItemKind::Named)?)),
         Form::EdgeEvent { kind, .. } => {

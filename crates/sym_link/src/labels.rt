@@ -1,14 +1,15 @@
 //! The labels of a file, and what is counted before each of its statements.
 
-ghost use Rattle.std.specs.Prelude.{◌≡◌, ◌≤◌, ◌<◌, ◌+◌, ◌^◌, ℕ, List, [], IfOk, OnOk, Some, length, slice_get, if◌then◌else◌};
+ghost use Rattle.std.specs.Prelude.{◌≡◌, ◌≤◌, ◌<◌, ◌+◌, ◌*◌, ◌++◌, ◌^◌, ℕ, List, [], IfOk, OnOk, length};
+ghost use Rattle.std.specs.List.Sorted.{IsPermutation, IsSorted};
 ghost use Rattle.vvp_forms.specs.Checks.{places};
-ghost use Rattle.sym_link.specs.Known.{Knows, counted, kept_for};
-ghost use Rattle.sym_link.specs.Places.{counts_before, counts_of, is_opcode_what, is_scope_form, is_thread_form, label_is, place_of, signal_place, sort_at, symbol_code, symbol_item, symbol_place, symbol_scope, symbol_sort, words_in};
+ghost use Rattle.sym_link.specs.Known.{AreKept, IsCounted, IsFirstFrom, IsIndex, Knows, counted, label_at, label_order, labelled, labelled_places, one_where};
+ghost use Rattle.sym_link.specs.Places.{counts_before, counts_of, is_opcode_what, is_scope_form, is_thread_form, signal_place, sort_at, symbol_code, symbol_item, symbol_place, symbol_scope, symbol_sort, words_in};
 
 use crate::placed::{Placed, What};
 use crate::sorts::{Sort, is_item, is_signal, makes_current, sort_of};
 use std::alloc::{AllocError, Global};
-use std::collections::BTreeMap;
+use std::cmp::Ordering;
 use vvp_forms::Form;
 use vvp_lex::{Name, bytes_of};
 
@@ -72,9 +73,10 @@ pub fn is_thread_form(what: &What) -> bool
 pub struct File<'a> {
     src: &'a [u8],
     placed: &'a [Placed],
-    /// The place of the first statement with each label. The map is a tree, since no choice of labels makes it slow.
-    names: BTreeMap<&'a [u8], u32>,
-    /// The counts before each place, and then those of all statements.
+    /// The places of the statements with a label, in the order of their labels, and in file order where labels are
+    /// equal. No choice of labels makes a search slow.
+    names: Vec<u32>,
+    /// The counts before each eighth place, from the first on: few enough to keep, and near enough to count on from.
     counts: Vec<Counts>,
 }
 
@@ -85,7 +87,7 @@ impl<'a> File<'a> {
         ensures { IfOk result (Knows src.now placed.now) }
     {
         let names = names_of(alloc, src, placed)?;
-        let counts = counts_of(alloc, placed)?;
+        let counts = kept_counts(alloc, placed)?;
         Ok(File {
             src,
             placed,
@@ -106,27 +108,43 @@ impl<'a> File<'a> {
         ensures { (file : List ℕ) → (all : List Placed) → Knows file all self.now → result ≡ symbol_place file all symbol }
     {
         let label = bytes_of(self.src, symbol);
-        self.names.get(&label).copied()
+        let at = first_from(self.src, self.placed, &self.names, label);
+        match self.names.get(at) {
+            Some(place) if label_at(self.src, self.placed, *place) == label => Some(*place),
+            _ => None,
+        }
+    }
+
+    /// The counts before the eighth place of this number.
+    fn kept_at(&self, number: usize) -> Counts
+        ensures { (file : List ℕ) → (all : List Placed) → Knows file all self.now → number * 8 ≤ length all → IsCounted all (number * 8) result }
+    {
+        match self.counts.get(number) {
+            Some(counts) => *counts,
+            None => no_counts(),
+        }
+    }
+
+    /// The counts before a place, on from the nearest that are kept.
+    fn counts_at(&self, place: usize) -> Counts
+        ensures { (file : List ℕ) → (all : List Placed) → Knows file all self.now → place ≤ length all → result ≡ counts_before all place }
+    {
+        let number = place / 8;
+        counts_on(self.placed, self.kept_at(number), number * 8, place)
     }
 
     /// The counts before a place.
     pub fn counts_before(&self, place: u32) -> Counts
         ensures { (file : List ℕ) → (all : List Placed) → Knows file all self.now → place ≤ length all → result ≡ counts_before all place }
     {
-        match self.counts.get(place as usize) {
-            Some(counts) => *counts,
-            None => no_counts(),
-        }
+        self.counts_at(place as usize)
     }
 
     /// How many opcodes the file has.
     pub fn opcodes(&self) -> u32
         ensures { (file : List ℕ) → (all : List Placed) → Knows file all self.now → result ≡ (counts_before all (length all)).opcodes }
     {
-        match self.counts.get(self.placed.len()) {
-            Some(counts) => counts.opcodes,
-            None => 0,
-        }
+        self.counts_at(self.placed.len()).opcodes
     }
 
     /// What the label of the statement at a place names.
@@ -206,72 +224,135 @@ fn no_counts() -> Counts
     }
 }
 
+/// A count with one more where the test holds. What is counted of a file is far below the bound.
+fn plus_one(count: u32, test: bool) -> u32
+    ensures { count < 2 ^ 26 → result ≡ count + one_where test }
+{
+    count.saturating_add(u32::from(test))
+}
+
+/// Words with those of one more statement. The words of a file are far below the bound.
+fn plus_words(words: u64, what: &What) -> u64
+    ensures exact { words < 2 ^ 62 → result ≡ words + words_in what.now }
+    ensures most { result ≤ words + 4294967296 }
+{
+    words.saturating_add(words_in(what))
+}
+
 /// The counts with one more statement.
 fn counted(before: Counts, placed: &Placed) -> Counts
-    requires items { before.items < 2 ^ 26 }
-    requires opcodes { before.opcodes < 2 ^ 26 }
-    requires scopes { before.scopes < 2 ^ 26 }
-    requires starts { before.starts < 2 ^ 26 }
-    requires words { before.words < 2 ^ 62 }
-    ensures one_more { result ≡ counted before placed.now }
+    ensures one_more { before.items < 2 ^ 26 → before.opcodes < 2 ^ 26 → before.scopes < 2 ^ 26 → before.starts < 2 ^ 26 → before.words < 2 ^ 62 → result ≡ counted before placed.now }
     ensures words { result.words ≤ before.words + 4294967296 }
 {
     let what = &placed.what;
     let item = is_item(sort_of(what), placed.label.is_some());
     Counts {
-        items: before.items + u32::from(item),
-        opcodes: before.opcodes + u32::from(is_opcode_what(what)),
-        scopes: before.scopes + u32::from(is_scope_form(what)),
-        starts: before.starts + u32::from(is_thread_form(what)),
-        words: before.words + words_in(what),
+        items: plus_one(before.items, item),
+        opcodes: plus_one(before.opcodes, is_opcode_what(what)),
+        scopes: plus_one(before.scopes, is_scope_form(what)),
+        starts: plus_one(before.starts, is_thread_form(what)),
+        words: plus_words(before.words, what),
         has_scope: before.has_scope || makes_current(what),
     }
 }
 
-/// The counts before each place, and then those of all statements.
-fn counts_of(alloc: Global, placed: &[Placed]) -> Result<Vec<Counts>, AllocError>
-    requires few { length placed.now ≤ 2 ^ 26 }
-    ensures { IfOk result (λ counts. (place : ℕ) → place ≤ length placed.now → slice_get counts.items place ≡ Some (counts_before placed.now place)) }
+/// The counts before a place, on from those before an earlier one.
+fn counts_on(placed: &[Placed], before: Counts, from: usize, to: usize) -> Counts
+    ensures { length placed.now ≤ 2 ^ 26 → from ≤ to → to ≤ length placed.now → IsCounted placed.now from before → IsCounted placed.now to result }
 {
-    let mut all = Vec::with_capacity(alloc, placed.len() + 1)?;
-    let mut counts = no_counts();
-    all.push(counts)?;
-    for one in placed {
-        counts = counted(counts, one);
-        all.push(counts)?;
+    let end = to.min(placed.len());
+    let mut counts = before;
+    let mut place = from;
+    while place < end {
+        counts = counted(counts, &placed[place]);
+        place += 1;
     }
-    Ok(all)
+    counts
 }
 
-/// Puts the label of a statement, where it has one, over those that are there.
-fn put_label<'a>(
-    names: &mut BTreeMap<&'a [u8], u32>,
-    src: &'a [u8],
-    label: Option<Name>,
-    place: u32,
-) -> Result<(), AllocError>
-    ensures { OnOk result ((name : List ℕ) → kept_for names.new name ≡ (if label_is src.entry.now name label then Some place else kept_for names.old name)) }
+/// The counts before each eighth place.
+fn kept_counts(alloc: Global, placed: &[Placed]) -> Result<Vec<Counts>, AllocError>
+    requires few { length placed.now ≤ 2 ^ 26 }
+    ensures { IfOk result (λ kept. AreKept placed.now kept.items) }
 {
-    if let Some(name) = label {
-        names.insert(bytes_of(src, name), place)?;
+    let mut kept = Vec::with_capacity(alloc, placed.len() / 8 + 1)?;
+    let mut counts = no_counts();
+    kept.push(counts)?;
+    let mut place = 0;
+    while placed.len() - place >= 8 {
+        counts = counts_on(placed, counts, place, place + 8);
+        kept.push(counts)?;
+        place += 8;
+    }
+    Ok(kept)
+}
+
+/// The label of the statement at a place, empty where it has none.
+fn label_at<'a>(src: &'a [u8], placed: &[Placed], place: u32) -> &'a [u8]
+    ensures { result.now ≡ label_at src.now placed.now place }
+{
+    let Some(one) = placed.get(place as usize) else {
+        return &[];
+    };
+    match one.label {
+        Some(label) => bytes_of(src, label),
+        None => &[],
+    }
+}
+
+/// The order of two places: that of their labels, and of equal labels that of the file.
+fn label_order(src: &[u8], placed: &[Placed], first: u32, second: u32) -> Ordering
+    ensures { result ≡ label_order src.now placed.now first second }
+{
+    let labels = label_at(src, placed, first).cmp(label_at(src, placed, second));
+    labels.then(first.cmp(&second))
+}
+
+/// How many of the places have a label that comes before this one.
+fn first_from(src: &[u8], placed: &[Placed], places: &[u32], label: &[u8]) -> usize
+    ensures { IsSorted (label_order src.now placed.now) places.now → IsFirstFrom src.now placed.now places.now label.now result }
+{
+    places.partition_point(|place| label_at(src, placed, *place).cmp(label).is_lt())
+}
+
+/// Puts a place behind those that are there, where its statement has a label.
+fn put_labelled(places: &mut Vec<u32>, label: Option<Name>, place: u32) -> Result<(), AllocError>
+    ensures { OnOk result (places.new.items ≡ places.old.items ++ labelled place label) }
+{
+    if label.is_some() {
+        places.push(place)?;
     }
     Ok(())
 }
 
-/// The place of the first statement with each label.
-fn names_of<'a>(
-    alloc: Global,
-    src: &'a [u8],
-    placed: &[Placed],
-) -> Result<BTreeMap<&'a [u8], u32>, AllocError>
+/// The places of the statements with a label, in file order.
+fn labelled_places(alloc: Global, placed: &[Placed]) -> Result<Vec<u32>, AllocError>
     requires few { length placed.now ≤ 2 ^ 26 }
-    ensures { IfOk result (λ names. (name : List ℕ) → kept_for names name ≡ place_of src.entry.now placed.now name) }
+    ensures { IfOk result (λ places. places.items ≡ labelled_places placed.now) }
 {
-    let mut names = BTreeMap::new(alloc);
-    let mut place = placed.len();
-    while place > 0 {
-        place -= 1;
-        put_label(&mut names, src, placed[place].label, place as u32)?;
+    let mut places = Vec::with_capacity(alloc, placed.len())?;
+    let mut place = 0;
+    while place < placed.len() {
+        put_labelled(&mut places, placed[place].label, place as u32)?;
+        place += 1;
     }
-    Ok(names)
+    Ok(places)
+}
+
+/// Puts places into the order of their labels.
+fn sort_places(src: &[u8], placed: &[Placed], places: &mut Vec<u32>)
+    ensures places { IsPermutation places.old.items places.new.items }
+    ensures sorted { IsSorted (label_order src.now placed.now) places.new.items }
+{
+    places.sort_unstable_by(|first, second| label_order(src, placed, *first, *second));
+}
+
+/// The places of the statements with a label, in the order of their labels.
+fn names_of(alloc: Global, src: &[u8], placed: &[Placed]) -> Result<Vec<u32>, AllocError>
+    requires few { length placed.now ≤ 2 ^ 26 }
+    ensures { IfOk result (λ places. IsIndex src.now placed.now places.items) }
+{
+    let mut places = labelled_places(alloc, placed)?;
+    sort_places(src, placed, &mut places);
+    Ok(places)
 }

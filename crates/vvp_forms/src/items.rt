@@ -1,14 +1,18 @@
 //! Scopes, variables, nets, arrays, events and threads: what their rows mean.
 
-ghost use Rattle.std.specs.Prelude.{◌≡◌, ◌<◌};
+ghost use Rattle.std.specs.Prelude.{◌≡◌, ◌<◌, IfOk};
 ghost use Rattle.std.specs.Option.{option_map};
+ghost use Rattle.vvp_forms.specs.Checks.{kind_needed};
+ghost use Rattle.vvp_forms.specs.Choices.{scope_kind};
 ghost use Rattle.vvp_forms.specs.Forms.{precision, scope, current_scope, time_scale, variable, net, array, within_of, start_of, edge_event, thread};
 
 use crate::checks::{needed, power, range};
 use crate::choices::{edge_kind, scope_kind, start_kind};
-use crate::form::{Form, StartKind, VarKind, Within};
+use crate::form::{Form, ScopeKind, StartKind, VarKind, Within};
 use crate::gates::some_used;
+use crate::owned::Boxed;
 use crate::pieces::Operands;
+use std::alloc::{AllocError, Global};
 use vvp_lex::{FormKind, Name, bytes_of};
 
 /// The unit of time of a tick.
@@ -20,37 +24,55 @@ pub fn precision(operands: &Operands) -> Result<Form, FormKind>
     Ok(Form::Precision { power: value })
 }
 
-/// Where a scope stands, if it has a scope above it.
-fn within_of(operands: &Operands) -> Option<Within>
-    ensures { result ≡ option_map (within_of operands.now) operands.now.symbol }
+/// Where a scope stands, if it has a scope above it. The only error is want of memory.
+fn within_of(alloc: Global, operands: &Operands) -> Result<Option<Boxed<Within>>, AllocError>
+    ensures { IfOk result (λ within. within ≡ option_map (within_of operands.now) operands.now.symbol) }
 {
     match operands.symbol {
-        Some(scope) => Some(Within {
-            file: operands.numbers[2],
-            line: operands.numbers[3],
-            cell: operands.numbers[4],
-            scope,
-        }),
-        None => None,
+        Some(scope) => {
+            let within = Within {
+                file: operands.numbers[2],
+                line: operands.numbers[3],
+                cell: operands.numbers[4],
+                scope,
+            };
+            Ok(Some(Boxed::new(alloc, within)?))
+        }
+        None => Ok(None),
     }
 }
 
-/// A declared scope.
-#[tactic(auto, unfolding(crate::specs::Forms::scope))]
-pub fn scope(src: &[u8], operands: Operands) -> Result<Form, FormKind>
-    ensures { result ≡ scope src.now operands }
+/// The kind of scope that a word says.
+#[tactic(auto, unfolding(crate::specs::Checks::kind_needed))]
+fn scope_said(src: &[u8], word: Option<Name>) -> Result<ScopeKind, FormKind>
+    ensures { result ≡ kind_needed scope_kind src.now word }
 {
-    let word = needed(operands.kind)?;
-    let kind = needed(scope_kind(bytes_of(src, word)))?;
-    let within = within_of(&operands);
-    Ok(Form::Scope {
+    let name = needed(word)?;
+    needed(scope_kind(bytes_of(src, name)))
+}
+
+/// A declared scope. The outer error is want of memory.
+#[tactic(auto, unfolding(crate::specs::Forms::scope))]
+pub fn scope(
+    alloc: Global,
+    src: &[u8],
+    operands: Operands,
+) -> Result<Result<Form, FormKind>, AllocError>
+    ensures { IfOk result (λ read. read ≡ scope src.now operands) }
+{
+    let kind = match scope_said(src, operands.kind) {
+        Ok(kind) => kind,
+        Err(kind) => return Ok(Err(kind)),
+    };
+    let within = within_of(alloc, &operands)?;
+    Ok(Ok(Form::Scope {
         kind,
-        name: operands.text,
-        module: operands.second_text,
+        name: Boxed::new(alloc, operands.text)?,
+        module: Boxed::new(alloc, operands.second_text)?,
         file: operands.numbers[0],
         line: operands.numbers[1],
         within,
-    })
+    }))
 }
 
 /// A scope that becomes current.

@@ -11,6 +11,7 @@ mod gates;
 mod items;
 mod make;
 mod numbers;
+mod owned;
 mod pieces;
 mod ports;
 mod read;
@@ -23,4 +24,5 @@ pub use form::{
     ArithmeticKind, CompareKind, EdgeKind, Form, Gate, Names, Port, Ports, Range, ReduceKind,
     ScopeKind, ShiftKind, StartKind, VarKind, Within,
 };
+pub use owned::Boxed;
 pub use read::read_form;

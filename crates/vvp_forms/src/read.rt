@@ -98,7 +98,7 @@ fn form_at(
         return refused(line, kind);
     }
     match read_pieces(alloc, src, pieces_of(row), tokens)? {
-        Some(operands) => answer(line, form_of(src, row, operands)),
+        Some(operands) => answer(line, form_of(alloc, src, row, operands)?),
         None => refused(line, FormKind::BadOperands),
     }
 }

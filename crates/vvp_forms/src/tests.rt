@@ -1,11 +1,12 @@
 //! Each row of the table with good and bad spellings, and each kind of refusal.
 
-use crate::form::{Form, Gate, Port, Range};
+use crate::form::{Form, Gate, Port, Range, Within};
+use crate::owned::Boxed;
 use crate::read::read_form;
 use four_state::{Bit, Vec4};
 use std::alloc::AllocError;
 use std::test::Fail;
-use vvp_lex::{FormFault, FormKind, Name, bytes_of, statements};
+use vvp_lex::{Bytes, FormFault, FormKind, Name, bytes_of, statements};
 
 /// A text that is spelled out: words with a space before each.
 #[derive(Drop)]
@@ -64,6 +65,14 @@ impl Shown<'_> {
         }
     }
 
+    fn boxed_port(&mut self, port: &Boxed<Port>) -> Result<(), AllocError> {
+        self.port(port.get())
+    }
+
+    fn boxed_text(&mut self, text: &Boxed<Bytes>) -> Result<(), AllocError> {
+        self.word(text.get().as_slice())
+    }
+
     fn ports(&mut self, ports: &[Port]) -> Result<(), AllocError> {
         for port in ports {
             self.port(port)?;
@@ -109,17 +118,14 @@ fn show(shown: &mut Shown, rt: &HostRuntime, form: &Form) -> Result<(), AllocErr
         } => {
             shown.word(b"scope")?;
             shown.number(rt, u64::from(*kind as u8))?;
-            shown.word(name.as_slice())?;
-            shown.word(module.as_slice())?;
+            shown.boxed_text(name)?;
+            shown.boxed_text(module)?;
             shown.number(rt, *file)?;
             shown.number(rt, *line)?;
-            if let Some(place) = within {
-                shown.number(rt, place.file)?;
-                shown.number(rt, place.line)?;
-                shown.number(rt, place.cell)?;
-                shown.name(place.scope)?;
+            match within {
+                Some(within) => show_within(shown, rt, within.get()),
+                None => Ok(()),
             }
-            Ok(())
         }
         Form::CurrentScope { scope } => {
             shown.word(b"current")?;
@@ -172,6 +178,14 @@ fn show(shown: &mut Shown, rt: &HostRuntime, form: &Form) -> Result<(), AllocErr
     }
 }
 
+/// Where a scope stands.
+fn show_within(shown: &mut Shown, rt: &HostRuntime, place: &Within) -> Result<(), AllocError> {
+    shown.number(rt, place.file)?;
+    shown.number(rt, place.line)?;
+    shown.number(rt, place.cell)?;
+    shown.name(place.scope)
+}
+
 /// The same for gates, events and threads.
 fn show_gate(shown: &mut Shown, rt: &HostRuntime, form: &Form) -> Result<(), AllocError> {
     match form {
@@ -192,76 +206,12 @@ fn show_gate(shown: &mut Shown, rt: &HostRuntime, form: &Form) -> Result<(), All
             shown.number(rt, u64::from(*kind as u8))?;
             shown.ports(ports.as_array())
         }
-        Form::Part { port, base, width } => {
-            shown.word(b"part")?;
-            shown.port(port)?;
-            shown.number(rt, *base)?;
-            shown.number(rt, u64::from(*width))
-        }
-        Form::PartInto {
-            port,
-            base,
-            width,
-            whole,
-        } => {
-            shown.word(b"into")?;
-            shown.port(port)?;
-            shown.number(rt, *base)?;
-            shown.number(rt, u64::from(*width))?;
-            shown.number(rt, u64::from(*whole))
-        }
-        Form::PartFrom {
-            signed,
-            port,
-            base,
-            width,
-        } => {
-            shown.word(b"from")?;
-            shown.number(rt, u64::from(*signed))?;
-            shown.port(port)?;
-            shown.port(base)?;
-            shown.number(rt, u64::from(*width))
-        }
         Form::Concat { widths, ports } => {
             shown.word(b"concat")?;
             for width in widths {
                 shown.number(rt, u64::from(*width))?;
             }
             shown.ports(ports.as_array())
-        }
-        Form::Arithmetic {
-            kind,
-            width,
-            left,
-            right,
-        } => show_two(shown, rt, b"arithmetic", *kind as u8, *width, left, right),
-        Form::Compare {
-            kind,
-            width,
-            left,
-            right,
-        } => show_two(shown, rt, b"compare", *kind as u8, *width, left, right),
-        Form::Shift {
-            kind,
-            width,
-            port,
-            amount,
-        } => show_two(shown, rt, b"shift", *kind as u8, *width, port, amount),
-        Form::Reduce { kind, port } => {
-            shown.word(b"reduce")?;
-            shown.number(rt, u64::from(*kind as u8))?;
-            shown.port(port)
-        }
-        Form::Repeat { width, count, port } => {
-            shown.word(b"repeat")?;
-            shown.number(rt, u64::from(*width))?;
-            shown.number(rt, *count)?;
-            shown.port(port)
-        }
-        Form::Extend { width, port } => {
-            shown.word(b"extend")?;
-            shown.number(rt, u64::from(*width))?;
-            shown.port(port)
         }
         Form::Delay {
             width,
@@ -298,6 +248,77 @@ fn show_gate(shown: &mut Shown, rt: &HostRuntime, form: &Form) -> Result<(), All
             shown.name(*code)?;
             shown.number(rt, u64::from(*start as u8))
         }
+        _ => show_boxed(shown, rt, form),
+    }
+}
+
+/// The same for gates of one or two ports.
+fn show_boxed(shown: &mut Shown, rt: &HostRuntime, form: &Form) -> Result<(), AllocError> {
+    match form {
+        Form::Part { port, base, width } => {
+            shown.word(b"part")?;
+            shown.boxed_port(port)?;
+            shown.number(rt, *base)?;
+            shown.number(rt, u64::from(*width))
+        }
+        Form::PartInto {
+            port,
+            base,
+            width,
+            whole,
+        } => {
+            shown.word(b"into")?;
+            shown.boxed_port(port)?;
+            shown.number(rt, *base)?;
+            shown.number(rt, u64::from(*width))?;
+            shown.number(rt, u64::from(*whole))
+        }
+        Form::PartFrom {
+            signed,
+            port,
+            base,
+            width,
+        } => {
+            shown.word(b"from")?;
+            shown.number(rt, u64::from(*signed))?;
+            shown.boxed_port(port)?;
+            shown.boxed_port(base)?;
+            shown.number(rt, u64::from(*width))
+        }
+        Form::Arithmetic {
+            kind,
+            width,
+            left,
+            right,
+        } => show_two(shown, rt, b"arithmetic", *kind as u8, *width, left, right),
+        Form::Compare {
+            kind,
+            width,
+            left,
+            right,
+        } => show_two(shown, rt, b"compare", *kind as u8, *width, left, right),
+        Form::Shift {
+            kind,
+            width,
+            port,
+            amount,
+        } => show_two(shown, rt, b"shift", *kind as u8, *width, port, amount),
+        Form::Reduce { kind, port } => {
+            shown.word(b"reduce")?;
+            shown.number(rt, u64::from(*kind as u8))?;
+            shown.boxed_port(port)
+        }
+        Form::Repeat { width, count, port } => {
+            shown.word(b"repeat")?;
+            shown.number(rt, u64::from(*width))?;
+            shown.number(rt, *count)?;
+            shown.boxed_port(port)
+        }
+        Form::Extend { width, port } => {
+            shown.word(b"extend")?;
+            shown.number(rt, u64::from(*width))?;
+            shown.boxed_port(port)
+        }
         _ => shown.word(b"label"),
     }
 }
@@ -309,14 +330,14 @@ fn show_two(
     word: &[u8],
     kind: u8,
     width: u8,
-    left: &Port,
-    right: &Port,
+    left: &Boxed<Port>,
+    right: &Boxed<Port>,
 ) -> Result<(), AllocError> {
     shown.word(word)?;
     shown.number(rt, u64::from(kind))?;
     shown.number(rt, u64::from(width))?;
-    shown.port(left)?;
-    shown.port(right)
+    shown.boxed_port(left)?;
+    shown.boxed_port(right)
 }
 
 /// What the only statement of a file says, or why it is refused.
