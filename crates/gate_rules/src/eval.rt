@@ -9,6 +9,7 @@ ghost use Rattle.gate_rules.specs.Evaluable.{IsEvaluable, HaveWidth};
 ghost use Rattle.gate_rules.specs.Output.{output};
 ghost use Rattle.gate_rules.specs.Ports.{there, widths, width_at, driven_ports};
 ghost use Rattle.gate_rules.specs.Strong.{keeps_strong, resolves_strongly};
+ghost use Rattle.gate_rules.specs.Single.{has_one_input};
 ghost use Rattle.gate_rules.specs.Tables.{has_table, IsIdle, with_next};
 
 use crate::fold::Table;
@@ -18,6 +19,7 @@ use crate::pass::{
     levels_extended, levels_from, levels_put, levels_repeated, part_levels,
 };
 use crate::ports::{bits_at, driven_ports, levels_at, seen_ports};
+use crate::rows::buffered;
 use crate::strong::strength_of;
 use four_state::{Bit, ResKind, Vec4};
 use strengths::{Vec8, drive, resolve_kind, seen};
@@ -140,6 +142,34 @@ pub fn eval_two(gate: &Gate, left: Vec4, right: Vec4) -> Vec4
         Gate::Nand => Table::And.of_two(left, right).not(),
         Gate::Nor => Table::Or.of_two(left, right).not(),
         Gate::Xnor => Table::Xor.of_two(left, right).not(),
+        _ => unreachable!(),
+    }
+}
+
+/// Whether a gate makes what it drives of its first port alone, place by place: BUF, NOT and BUFZ (IEEE 1364-2005, 7.3).
+/// `eval_one` evaluates it.
+#[inline]
+pub fn has_one_input(gate: &Gate) -> bool
+    ensures { result ≡ has_one_input gate.now }
+{
+    match gate {
+        Gate::Buf | Gate::Not | Gate::Bufz => true,
+        _ => false,
+    }
+}
+
+/// `eval_strong` of a gate of one input whose first port has these bits, whatever the others have.
+#[inline]
+pub fn eval_one(gate: &Gate, bits: Vec4) -> Vec4
+    requires { IsTrue (has_one_input gate.now) }
+    ensures value { (width s0 s1 : ℕ) (others : List (Option (List Bit))) → IsTrue (keeps_strong gate.now s0 s1)
+        → output gate.now width s0 s1 (driven_ports 6 6 (Some bits ∷ others)) ≡ map (driven 6 6) result }
+    ensures width { length result ≡ length bits }
+{
+    match gate {
+        Gate::Buf => buffered(bits),
+        Gate::Not => bits.not(),
+        Gate::Bufz => bits,
         _ => unreachable!(),
     }
 }

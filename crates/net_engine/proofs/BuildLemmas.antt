@@ -60,16 +60,12 @@ slots-forced (node ∷ nodes) =
 abbrev never : Request
 never = record { serial = 0; kept = None }
 
-requests-never : (nodes : List Node) → replicate (length nodes) never ≡ map (λ (node : Node). never) nodes
-requests-never [] = refl
-requests-never (node ∷ nodes) = ap (λ (rs : List Request). never ∷ rs) (requests-never nodes)
-
-pub store-first : (nodes : List Node) (slots : List (Option Held)) (words : List (List (List Bit))) (requests : List Request) (count : ℕ) → slots ≡ map first_slot nodes → words ≡ map (λ (node : Node). first_words node node.what) nodes → requests ≡ replicate count never → count ≡ length nodes
+pub store-first : (nodes : List Node) (slots : List (Option Held)) (words : List (List (List Bit))) (requests : List Request) → slots ≡ map first_slot nodes → words ≡ map (λ (node : Node). first_words node node.what) nodes → requests ≡ map (λ (node : Node). never) nodes
     → stored slots words requests ≡ first_values nodes
 unfolding first_values
-store-first nodes slots words requests count are_slots are_words are_requests many =
+store-first nodes slots words requests are_slots are_words are_requests =
     ap (λ (ss : List (Option Held)). stored ss words requests) are_slots ∙ ap (λ (ws : List (List (List Bit))). stored (map first_slot nodes) ws requests) are_words
-    ∙ ap (λ (rs : List Request). stored (map first_slot nodes) (map (λ (node : Node). first_words node node.what) nodes) rs) (are_requests ∙ ap (λ (n : ℕ). replicate n never) many ∙ requests-never nodes)
+    ∙ ap (λ (rs : List Request). stored (map first_slot nodes) (map (λ (node : Node). first_words node node.what) nodes) rs) are_requests
     ∙ ap (λ (d : List (List Interval)). values d (map forced_in (map first_slot nodes))) (slots-driven nodes) ∙ ap (λ (f : List (List (Option Interval))). values (map first_driven nodes) f) (slots-forced nodes)
   where
     values : List (List Interval) → List (List (Option Interval)) → NetValues

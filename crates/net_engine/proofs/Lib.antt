@@ -27,3 +27,5 @@ pub mod BuildLemmas
 pub mod TestLemmas
 mod WholeLemmas
 pub mod PairLemmas
+pub mod SingleLemmas
+pub mod RoomLemmas

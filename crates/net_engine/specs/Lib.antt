@@ -8,3 +8,5 @@ pub mod Parts
 pub mod Built
 pub mod Outputs
 pub mod Pairs
+pub mod Inputs
+pub mod Room

@@ -1,12 +1,12 @@
 -- Gates that fold a table over two items.
-use Rattle.std.specs.Prelude.{◌≡◌, ℕ, ◌≤◌, IsTrue, Option, Some, None, List, [], ◌∷◌, length, slice_get}
+use Rattle.std.specs.Prelude.{◌≡◌, ℕ, ◌≤◌, IsTrue, Option, Some, List, [], ◌∷◌, length}
 use Rattle.vvp_forms.specs.declared.form.Gate.{Gate}
 use Rattle.gate_rules.specs.Tables.{has_table, IsIdle}
 use Rattle.sym_link.specs.declared.program.ItemKind.{ItemKind}
 use Rattle.sym_link.specs.declared.program.ItemKind.TheVariants.{Functor}
 use Rattle.sym_link.specs.declared.program.Source.{Source}
 use Rattle.sym_link.specs.declared.program.Source.TheVariants as source
-use Rattle.sym_link.specs.Roots.{Node, kind_of, root_of}
+use Rattle.sym_link.specs.Roots.{Node, root_of}
 
 -- a source adds nothing to what the table of a gate makes of two others: the port isn't used, or it is a constant that adds nothing
 abbrev pub IsIdleSource : Gate → Source → Type 0
@@ -30,8 +30,3 @@ pub record AreTwo (nodes : List Node) (kind : Gate) (sources : List Source) (lef
 abbrev pub IsPair : List Node → Option ItemKind → ℕ → ℕ → Type 0
 IsPair nodes (Some (Functor kind drive sources)) left right = IsTrue (has_table kind) × (drive.0 ≡ 6) × (drive.1 ≡ 6) × AreTwo nodes kind sources left right
 IsPair nodes other left right = ⊥
-
--- what is known of each item: that it is such a gate
-pub record ArePairs (nodes : List Node) (pairs : List (Option (ℕ × ℕ))) : Type 0 where
-  pub counted : length pairs ≡ length nodes
-  pub each : (item : ℕ) (pair : ℕ × ℕ) → slice_get pairs item ≡ Some (Some pair) → IsPair nodes (kind_of nodes item) pair.0 pair.1

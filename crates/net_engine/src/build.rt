@@ -8,13 +8,14 @@ ghost use Rattle.sym_link.specs.Sound.{IsProgram, IsItem};
 ghost use Rattle.net_engine.specs.Net.{first_driven_by, first_words, first_values};
 ghost use Rattle.net_engine.specs.Kept.{has_output};
 ghost use Rattle.net_engine.specs.Readers.{driven_ports, listeners_of};
+ghost use Rattle.net_engine.specs.Room.{first_room, HasRoom};
 ghost use Rattle.net_engine.specs.Slots.{HasPlaces, helds};
 ghost use Rattle.net_engine.specs.Built.{first_levels, first_slot, first_place, IsFirst, IsSized, AreEvents, events_of, is_last, once, IsListing};
 
 use crate::design::{Design, Row};
-use crate::pairs::pairs_of;
+use crate::inputs::inputs_of;
 use crate::slot::Slot;
-use crate::store::{Request, Store, Words};
+use crate::store::{Room, Store, Words};
 use four_state::{Bit, Vec4};
 use gate_rules::start_value;
 use port_chain::Fanout;
@@ -203,9 +204,9 @@ pub(crate) fn design_of<F: Fanout + Drop>(
 {
     let items = program.items.as_slice();
     let rows = rows_of(alloc, items)?;
-    let pairs = pairs_of(alloc, rows.as_slice())?;
+    let inputs = inputs_of(alloc, rows.as_slice())?;
     let listeners = all_listeners(alloc, items)?;
-    Ok(Design::new(fan, rows, listeners, pairs))
+    Ok(Design::new(fan, rows, listeners, inputs))
 }
 
 // What drives an item before anything has happened: x, by the strengths that it drives with.
@@ -283,14 +284,25 @@ fn all_words(alloc: Global, items: &[Item]) -> Result<Vec<Words>, AllocError>
     Ok(words)
 }
 
-// So many requests that were never made.
-fn no_requests(alloc: Global, count: usize) -> Result<Vec<Request>, AllocError>
-    ensures { IfOk result (λ requests. requests.items ≡ replicate count (record { serial = 0; kept = None })) }
+// Room for the requests of a net delay, of which none was made, and none for any other item.
+fn first_room(alloc: Global, item: &Item) -> Result<Room, AllocError>
+    ensures { IfOk result (λ room. room ≡ first_room (node_of item.now)) }
 {
-    vec![in alloc; Request {
-        serial: 0,
-        kept: None
-    }; count]
+    match &item.what {
+        ItemKind::Delay { .. } => Room::new(alloc),
+        _ => Ok(Room::none()),
+    }
+}
+
+// Room for the requests of all net delays.
+fn all_rooms(alloc: Global, items: &[Item]) -> Result<Vec<Room>, AllocError>
+    ensures { IfOk result (λ rooms. rooms.items ≡ map first_room (map node_of items.now)) }
+{
+    let mut rooms = Vec::with_capacity(alloc, items.len())?;
+    'items: for i in 0..items.len() {
+        rooms.push(first_room(alloc, &items[i])?)?;
+    }
+    Ok(rooms)
 }
 
 // The width of an item's place in the plane.
@@ -345,12 +357,13 @@ fn first_plane(alloc: Global, items: &[Item]) -> Result<Plane, AllocError>
 /// The values of a program's items before anything has happened.
 pub(crate) fn store_of(alloc: Global, program: &Program) -> Result<Store, AllocError>
     requires { IsProgram program.now }
-    ensures { IfOk result (λ store. store ≡ first_values (nodes_of program.now)) }
+    ensures values { IfOk result (λ store. store.values ≡ first_values (nodes_of program.now)) }
+    ensures room { IfOk result (λ store. HasRoom (nodes_of program.now) store.room) }
 {
     let items = program.items.as_slice();
     let slots = all_slots(alloc, items)?;
     let words = all_words(alloc, items)?;
-    let requests = no_requests(alloc, items.len())?;
+    let requests = all_rooms(alloc, items)?;
     let plane = first_plane(alloc, items)?;
     Ok(Store::new(slots, words, requests, plane))
 }

@@ -1,12 +1,13 @@
 //! What a run knows of the items of a design, and which inputs each one drives.
 
-ghost use Rattle.std.specs.Prelude.{◌≡◌, ℕ, ◌<◌, Some, IfSome, length, Contains, slice_get};
+ghost use Rattle.std.specs.Prelude.{◌≡◌, ℕ, ◌<◌, Some, length, Contains, slice_get};
 ghost use Rattle.port_chain.specs.Pairs.{link_at, IsAfter, AreDistinctPorts};
 ghost use Rattle.sym_link.specs.Roots.{Node, kind_of, root_of};
 ghost use Rattle.net_engine.specs.Readers.{driven_ports, listeners_of};
 ghost use Rattle.net_engine.specs.Parts.{IsDesign};
-ghost use Rattle.net_engine.specs.Pairs.{IsPair, ArePairs};
+ghost use Rattle.net_engine.specs.Inputs.{IsInputs, AreInputs};
 
+use crate::inputs::Inputs;
 use port_chain::{Fanout, Link};
 use std::marker::Model;
 use sym_link::{ItemKind, Numbers};
@@ -34,21 +35,21 @@ pub(crate) struct Design<F: Fanout + Drop> {
     rows: Vec<Row>,
     // Of each item the events that list it, in file order.
     listeners: Vec<Numbers>,
-    // Of each gate that drives strongly what its table makes of the values of two items, these items.
-    pairs: Vec<Option<(u32, u32)>>,
+    // Of each item those whose values alone tell what it drives.
+    inputs: Vec<Inputs>,
 }
 
 impl<F: Fanout + Drop> Model for Design<F> {
     ghost use Rattle.std.specs.Prelude.{List};
     ghost use Rattle.sym_link.specs.Roots.{Node};
     ghost use Rattle.net_engine.specs.Parts.{IsDesign};
-    ghost use Rattle.net_engine.specs.Pairs.{ArePairs};
+    ghost use Rattle.net_engine.specs.Inputs.{AreInputs};
 
     ghost Value = { List Node };
 
     ghost view = { λ d. d.rows.items };
 
-    ghost invariant = { λ d. IsDesign (F.nodes d.fan) (F.pairs d.fan) d.listeners.items d.rows.items × ArePairs d.rows.items d.pairs.items };
+    ghost invariant = { λ d. IsDesign (F.nodes d.fan) (F.pairs d.fan) d.listeners.items d.rows.items × AreInputs d.rows.items d.inputs.items };
 }
 
 impl<F: Fanout + Drop> Design<F> {
@@ -57,17 +58,17 @@ impl<F: Fanout + Drop> Design<F> {
         fan: F,
         rows: Vec<Row>,
         listeners: Vec<Numbers>,
-        pairs: Vec<Option<(u32, u32)>>,
+        inputs: Vec<Inputs>,
     ) -> Design<F>
         requires design { IsDesign (F.nodes fan) (F.pairs fan) listeners.items rows.items }
-        requires pairs { ArePairs rows.items pairs.items }
+        requires inputs { AreInputs rows.items inputs.items }
         ensures { result ≡ rows.items }
     {
         Design {
             fan,
             rows,
             listeners,
-            pairs,
+            inputs,
         }
     }
 
@@ -87,12 +88,12 @@ impl<F: Fanout + Drop> Design<F> {
         &self.rows[item as usize].what
     }
 
-    /// The two items whose values a gate's table joins, where it has these alone and drives strongly.
-    pub(crate) fn pair(&self, item: u32) -> Option<(u32, u32)>
+    /// The items whose values alone tell what an item drives.
+    pub(crate) fn inputs(&self, item: u32) -> Inputs
         requires { item < length self.now }
-        ensures { IfSome result (λ pair. IsPair self.now (kind_of self.now item) pair.0 pair.1) }
+        ensures { IsInputs self.now (kind_of self.now item) result }
     {
-        self.pairs[item as usize]
+        self.inputs[item as usize]
     }
 
     /// The item whose value an item shows.

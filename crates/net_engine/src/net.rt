@@ -10,13 +10,15 @@ ghost use Rattle.strengths.specs.Interval.{Interval};
 ghost use Rattle.net_engine.specs.Net.{with_request, words_of, value_of, driven_of, forced_of, request_of, strongly, first_values};
 ghost use Rattle.net_engine.specs.Delivery.{write, eval, mature, force, release, trigger, change, variable_assigned, asked, asked_anew, follows_after, postponed};
 ghost use Rattle.net_engine.specs.Kept.{Fits, FitsBut, Delivers, IsWritable, IsDelay, HasOutput, has_output, evals_lacking};
+ghost use Rattle.net_engine.specs.Inputs.{IsSingle};
 ghost use Rattle.net_engine.specs.Readers.{driven_ports};
 ghost use Rattle.net_engine.specs.Parts.{plane_of, HasLevels, HasValue, AreWide, AsksAtMost, IsGateKind, keeps};
 
 use crate::build::{design_of, marks_of, store_of};
 use crate::deliver::{follow, trigger};
 use crate::design::Design;
-use crate::outputs::{bits_output, is_told_by_bits, levels_output, pair_output};
+use crate::inputs::Inputs;
+use crate::outputs::{bits_output, is_told_by_bits, levels_output, pair_output, single_output};
 use crate::store::{Change, Request, Store};
 use crate::times::Times;
 use event_pool::{Act, Agenda, Due, Region};
@@ -48,12 +50,13 @@ pub struct Net<F: Fanout + Drop> {
 impl<F: Fanout + Drop> Model for Net<F> {
     ghost use Rattle.net_engine.specs.Kept.{NetNow};
     ghost use Rattle.net_engine.specs.Parts.{IsNet};
+    ghost use Rattle.net_engine.specs.Room.{HasRoom};
 
     ghost Value = { NetNow };
 
-    ghost view = { λ n. record { nodes = n.design; values = n.store; marks = n.marks.items } };
+    ghost view = { λ n. record { nodes = n.design; values = n.store.values; marks = n.marks.items } };
 
-    ghost invariant = { λ n. IsNet n.design n.store n.marks.items };
+    ghost invariant = { λ n. IsNet n.design n.store.values n.marks.items × HasRoom n.design n.store.room };
 }
 
 // Whether a value that is laid over so many bits, from the place `offset` up, takes the place of all of them.
@@ -291,20 +294,40 @@ impl<F: Fanout + Drop> Net<F> {
         }
     }
 
-    // A gate that is marked no more is evaluated. Most have the values of two items at their ports and no more.
+    // A gate that is marked no more is evaluated. Most have the values of one item or of two at their ports and no more.
     fn eval_gate<A: Agenda>(&mut self, item: u32, agenda: &mut A, threads: &mut Threads)
         requires fits { Fits self.old threads.old (A.schedule agenda.old) }
         requires gate { IsGateKind (kind_of self.old.nodes item) }
         ensures state { Delivers (eval self.old.nodes item) self.old self.new threads.old threads.new (A.schedule agenda.old) (A.schedule agenda.new) }
         ensures requests { self.new.values.requests ≡ self.old.values.requests }
     {
-        match self.design.pair(item) {
-            Some((left, right)) => {
+        match self.design.inputs(item) {
+            Inputs::Pair(left, right) => {
                 let bits = pair_output(&self.design, &self.store, item, left, right);
                 self.change_bits(item, bits, agenda, threads);
             }
-            None => self.eval_ports(item, agenda, threads),
+            Inputs::Single(input) => self.eval_single(item, input, agenda, threads),
+            Inputs::Other => self.eval_ports(item, agenda, threads),
         }
+    }
+
+    // The same for a gate of one input.
+    #[inline(never)]
+    fn eval_single<A: Agenda>(
+        &mut self,
+        item: u32,
+        input: u32,
+        agenda: &mut A,
+        threads: &mut Threads,
+    )
+        requires fits { Fits self.old threads.old (A.schedule agenda.old) }
+        requires gate { IsGateKind (kind_of self.old.nodes item) }
+        requires single { IsSingle self.old.nodes (kind_of self.old.nodes item) input }
+        ensures state { Delivers (eval self.old.nodes item) self.old self.new threads.old threads.new (A.schedule agenda.old) (A.schedule agenda.new) }
+        ensures requests { self.new.values.requests ≡ self.old.values.requests }
+    {
+        let bits = single_output(&self.design, &self.store, item, input);
+        self.change_bits(item, bits, agenda, threads);
     }
 
     // The same for each gate. It stands out of line, so that a gate with two items pays nothing for it.

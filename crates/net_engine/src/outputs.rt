@@ -7,12 +7,13 @@ ghost use Rattle.sym_link.specs.Roots.{Node, kind_of};
 ghost use Rattle.net_engine.specs.Net.{at_source, output_of, seen, strongly};
 ghost use Rattle.net_engine.specs.Parts.{IsLinked, AreWide, IsShowing, AreShowing, IsGateKind};
 ghost use Rattle.net_engine.specs.Outputs.{IsToldByBits};
+ghost use Rattle.net_engine.specs.Inputs.{IsSingle};
 ghost use Rattle.net_engine.specs.Pairs.{IsPair};
 
 use crate::design::Design;
 use crate::store::Store;
 use four_state::{ResKind, Vec4};
-use gate_rules::{eval_gate, eval_strong, eval_two};
+use gate_rules::{eval_gate, eval_one, eval_strong, eval_two};
 use port_chain::Fanout;
 use strengths::{Vec8, drive};
 use sym_link::{ItemKind, Source, Sources};
@@ -29,8 +30,8 @@ fn sized(levels: Vec8) -> Vec8
 
 // What a port has from its source.
 fn at_source<F: Fanout + Drop>(design: &Design<F>, store: &Store, source: &Source) -> Option<Vec8>
-    requires { IsShowing design.now store.now source.now }
-    ensures value { result ≡ at_source design.now store.now source.now }
+    requires { IsShowing design.now store.now.values source.now }
+    ensures value { result ≡ at_source design.now store.now.values source.now }
     ensures least { IfSome result (λ levels. 1 ≤ length levels) }
 {
     match source {
@@ -46,8 +47,8 @@ fn at_ports<F: Fanout + Drop>(
     store: &Store,
     ports: &Sources,
 ) -> [Option<Vec8>; 4]
-    requires { AreShowing design.now store.now ports.now }
-    ensures value { result ≡ map (at_source design.now store.now) ports.now }
+    requires { AreShowing design.now store.now.values ports.now }
+    ensures value { result ≡ map (at_source design.now store.now.values) ports.now }
     ensures least { All (λ port. IfSome port (λ levels. 1 ≤ length levels)) result }
 {
     let ports = ports.as_array();
@@ -61,8 +62,8 @@ fn at_ports<F: Fanout + Drop>(
 
 // Whether a source drives as a variable does: an item does of which the plane alone has the value.
 fn is_strong<F: Fanout + Drop>(design: &Design<F>, store: &Store, source: &Source) -> bool
-    requires { IsShowing design.now store.now source.now }
-    ensures { result ≡ true → option_map strongly (option_map seen (at_source design.now store.now source.now)) ≡ at_source design.now store.now source.now }
+    requires { IsShowing design.now store.now.values source.now }
+    ensures { result ≡ true → option_map strongly (option_map seen (at_source design.now store.now.values source.now)) ≡ at_source design.now store.now.values source.now }
 {
     match source {
         Source::Unused => true,
@@ -73,8 +74,8 @@ fn is_strong<F: Fanout + Drop>(design: &Design<F>, store: &Store, source: &Sourc
 
 // Whether each source of a gate drives as a variable does.
 fn are_strong<F: Fanout + Drop>(design: &Design<F>, store: &Store, ports: &Sources) -> bool
-    requires { AreShowing design.now store.now ports.now }
-    ensures { result ≡ true → driven_ports 6 6 (seen_ports (map (at_source design.now store.now) ports.now)) ≡ map (at_source design.now store.now) ports.now }
+    requires { AreShowing design.now store.now.values ports.now }
+    ensures { result ≡ true → driven_ports 6 6 (seen_ports (map (at_source design.now store.now.values) ports.now)) ≡ map (at_source design.now store.now.values) ports.now }
 {
     let ports = ports.as_array();
     is_strong(design, store, &ports[0])
@@ -92,9 +93,9 @@ fn is_by_bits<F: Fanout + Drop>(
     drives: (u8, u8),
     ports: &Sources,
 ) -> bool
-    requires { AreShowing design.now store.now ports.now }
+    requires { AreShowing design.now store.now.values ports.now }
     ensures strong { result ≡ true → IsTrue (keeps_strong gate.now drives.0 drives.1) }
-    ensures ports { result ≡ true → looks gate.now ≡ false → driven_ports 6 6 (seen_ports (map (at_source design.now store.now) ports.now)) ≡ map (at_source design.now store.now) ports.now }
+    ensures ports { result ≡ true → looks gate.now ≡ false → driven_ports 6 6 (seen_ports (map (at_source design.now store.now.values) ports.now)) ≡ map (at_source design.now store.now.values) ports.now }
 {
     match gate {
         Gate::And
@@ -132,8 +133,8 @@ fn put_bits<F: Fanout + Drop>(
     source: &Source,
     port: &mut Option<Vec4>,
 )
-    requires { IsShowing design.now store.now source.now }
-    ensures value { port.new ≡ option_map seen (at_source design.now store.now source.now) }
+    requires { IsShowing design.now store.now.values source.now }
+    ensures value { port.new ≡ option_map seen (at_source design.now store.now.values source.now) }
     ensures least { IfSome port.new (λ bits. 1 ≤ length bits) }
 {
     match source {
@@ -150,8 +151,8 @@ fn put_all_bits<F: Fanout + Drop>(
     sources: &Sources,
     ports: &mut [Option<Vec4>; 4],
 )
-    requires { AreShowing design.now store.now sources.now }
-    ensures value { ports.new ≡ seen_ports (map (at_source design.now store.now) sources.now) }
+    requires { AreShowing design.now store.now.values sources.now }
+    ensures value { ports.new ≡ seen_ports (map (at_source design.now store.now.values) sources.now) }
     ensures least { All (λ port. IfSome port (λ bits. 1 ≤ length bits)) ports.new }
 {
     let sources = sources.as_array();
@@ -168,9 +169,9 @@ pub(crate) fn is_told_by_bits<F: Fanout + Drop>(
     item: u32,
 ) -> bool
     requires linked { IsLinked design.now }
-    requires wide { AreWide design.now store.now }
+    requires wide { AreWide design.now store.now.values }
     requires gate { IsGateKind (kind_of design.now item) }
-    ensures { result ≡ true → IsToldByBits design.now store.now (kind_of design.now item) }
+    ensures { result ≡ true → IsToldByBits design.now store.now.values (kind_of design.now item) }
 {
     match design.kind(item) {
         ItemKind::Functor { gate, drive, ports } => is_by_bits(design, store, gate, *drive, ports),
@@ -187,9 +188,9 @@ pub(crate) fn bits_output<F: Fanout + Drop>(
     ports: &mut [Option<Vec4>; 4],
 ) -> Vec4
     requires linked { IsLinked design.now }
-    requires wide { AreWide design.now store.now }
-    requires gate { IsToldByBits design.now store.now (kind_of design.now item) }
-    ensures value { (node : Node) → slice_get design.now item ≡ Some node → strongly result ≡ output_of design.now store.now node }
+    requires wide { AreWide design.now store.now.values }
+    requires gate { IsToldByBits design.now store.now.values (kind_of design.now item) }
+    ensures value { (node : Node) → slice_get design.now item ≡ Some node → strongly result ≡ output_of design.now store.now.values node }
     ensures width { (node : Node) → slice_get design.now item ≡ Some node → length result ≡ node.width }
 {
     match design.kind(item) {
@@ -206,6 +207,32 @@ pub(crate) fn bits_output<F: Fanout + Drop>(
     }
 }
 
+/// The bits that a gate drives, as a variable does, which has one input, the value of an item.
+pub(crate) fn single_output<F: Fanout + Drop>(
+    design: &Design<F>,
+    store: &Store,
+    item: u32,
+    input: u32,
+) -> Vec4
+    requires linked { IsLinked design.now }
+    requires wide { AreWide design.now store.now.values }
+    requires single { IsSingle design.now (kind_of design.now item) input }
+    ensures value { (node : Node) → slice_get design.now item ≡ Some node → strongly result ≡ output_of design.now store.now.values node }
+    ensures width { (node : Node) → slice_get design.now item ≡ Some node → length result ≡ node.width }
+{
+    match design.kind(item) {
+        ItemKind::Functor {
+            gate,
+            drive: _drive,
+            ports: _sources,
+        } => {
+            let bits = sized_bits(store.bits(input));
+            eval_one(gate, bits)
+        }
+        _ => unreachable!(),
+    }
+}
+
 /// The bits that a gate drives, as a variable does, whose table joins the values of two items.
 pub(crate) fn pair_output<F: Fanout + Drop>(
     design: &Design<F>,
@@ -215,9 +242,9 @@ pub(crate) fn pair_output<F: Fanout + Drop>(
     right: u32,
 ) -> Vec4
     requires linked { IsLinked design.now }
-    requires wide { AreWide design.now store.now }
+    requires wide { AreWide design.now store.now.values }
     requires pair { IsPair design.now (kind_of design.now item) left right }
-    ensures value { (node : Node) → slice_get design.now item ≡ Some node → strongly result ≡ output_of design.now store.now node }
+    ensures value { (node : Node) → slice_get design.now item ≡ Some node → strongly result ≡ output_of design.now store.now.values node }
     ensures width { (node : Node) → slice_get design.now item ≡ Some node → length result ≡ node.width }
 {
     match design.kind(item) {
@@ -237,9 +264,9 @@ pub(crate) fn pair_output<F: Fanout + Drop>(
 /// The levels that a gate drives.
 pub(crate) fn levels_output<F: Fanout + Drop>(design: &Design<F>, store: &Store, item: u32) -> Vec8
     requires linked { IsLinked design.now }
-    requires wide { AreWide design.now store.now }
+    requires wide { AreWide design.now store.now.values }
     requires gate { IsGateKind (kind_of design.now item) }
-    ensures value { (node : Node) → slice_get design.now item ≡ Some node → result ≡ output_of design.now store.now node }
+    ensures value { (node : Node) → slice_get design.now item ≡ Some node → result ≡ output_of design.now store.now.values node }
     ensures width { (node : Node) → slice_get design.now item ≡ Some node → length result ≡ node.width }
 {
     match design.kind(item) {

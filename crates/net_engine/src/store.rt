@@ -1,15 +1,17 @@
 //! The values of all items.
 
-ghost use Rattle.std.specs.Prelude.{◌≡◌, ℕ, ◌+◌, ◌<◌, ◌≤◌, true, [], length, map, replicate, Option, Some, None, slice_get, slice_set, slice_index_or};
+ghost use Rattle.std.specs.Prelude.{◌≡◌, ℕ, ◌+◌, ◌<◌, ◌≤◌, true, [], length, map, replicate, Option, Some, None, IfOk, is_some, slice_get, slice_set, slice_index_or};
 ghost use Rattle.std.specs.List.{enumerate_from};
 ghost use Rattle.four_state.specs.Vector.{overlaid};
 ghost use Rattle.net_engine.specs.Net.{driven_of, forced_of, levels_of, array_of, request_of, seen, strongly, with_parts, with_word, with_request};
 ghost use Rattle.net_engine.specs.Delivery.{forced_after, driven_after};
 ghost use Rattle.net_engine.specs.Slots.{SlotNow, driving, forcing, released, IsPlain, IsChanged, IsKept, helds, driven_in, forced_in};
+ghost use Rattle.net_engine.specs.Room.{last_request, no_request};
 ghost use Rattle.net_engine.specs.Parts.{IsChange, HasBits, change_if, place_by_value};
 
 use crate::slot::Slot;
 use four_state::{Bit, Vec4};
+use std::alloc::{AllocError, Global};
 use std::marker::Model;
 use strengths::{Level, Vec8, drive, seen};
 use value_plane::Plane;
@@ -65,7 +67,69 @@ impl Model for Request {
     ghost inverse = { λ r. record { serial = r.serial; kept = r.kept } };
 }
 
-/// The values of all items, by item. Contracts see what drives each, what is forced on it, its words and its last request.
+/// Room for the last request of a net delay, and none for any other item. Contracts see the request, where there is room.
+#[derive(Drop)]
+pub(crate) struct Room {
+    request: Option<Box<Request>>,
+}
+
+impl Model for Room {
+    ghost use Rattle.std.specs.Prelude.{Option, option_map};
+    ghost use Rattle.net_engine.specs.Net.{Request};
+
+    ghost Value = { Option Request };
+
+    ghost view = { λ r. option_map (λ b. b.value) r.request };
+}
+
+impl Room {
+    /// Room for requests, of which none was made. The only error is want of memory.
+    pub(crate) fn new(alloc: Global) -> Result<Room, AllocError>
+        ensures { IfOk result (λ room. room ≡ Some no_request) }
+    {
+        let none = Request {
+            serial: 0,
+            kept: None,
+        };
+        Ok(Room {
+            request: Some(Box::new(alloc, none)?),
+        })
+    }
+
+    /// No room.
+    pub(crate) fn none() -> Room
+        ensures { result ≡ None }
+    {
+        Room { request: None }
+    }
+
+    // The last request; none was made where there is no room.
+    fn last(&self) -> Request
+        ensures { result ≡ last_request self.now }
+    {
+        match &self.request {
+            Some(request) => **request,
+            None => Request {
+                serial: 0,
+                kept: None,
+            },
+        }
+    }
+
+    // Makes a request.
+    fn set(&mut self, request: Request)
+        requires { is_some self.old ≡ true }
+        ensures { self.new ≡ Some request }
+    {
+        match &mut self.request {
+            Some(place) => **place = request,
+            None => unreachable!(),
+        }
+    }
+}
+
+/// The values of all items, by item. Contracts see what drives each, what is forced on it, its words and its last request,
+/// and whether it has room for a request, as each net delay has.
 ///
 /// An item on which nothing is forced, and which bits drive as a variable is driven, has its value in the plane alone: a
 /// change of it compares two vectors. The slot of any other item has the levels that drive it. How an item is kept changes
@@ -74,23 +138,27 @@ impl Model for Request {
 pub(crate) struct Store {
     slots: Vec<Option<Slot>>,
     words: Vec<Words>,
-    requests: Vec<Request>,
+    // A place for the last request of each net delay, from the start, so that asking takes no memory.
+    requests: Vec<Room>,
     // The bits that each item is seen as, one x for an item without a value of its own.
     plane: Plane,
 }
 
 impl Model for Store {
-    ghost use Rattle.std.specs.Prelude.{map};
-    ghost use Rattle.net_engine.specs.Net.{NetValues};
+    ghost use Rattle.std.specs.Prelude.{map, is_some};
     ghost use Rattle.net_engine.specs.Slots.{driven_in, forced_in, helds, IsKept};
+    ghost use Rattle.net_engine.specs.Room.{StoreNow, last_request};
 
-    ghost Value = { NetValues };
+    ghost Value = { StoreNow };
 
     ghost view = { λ s. record {
-      driven = map driven_in (helds s.slots.items s.plane);
-      forced = map forced_in (helds s.slots.items s.plane);
-      words = s.words.items;
-      requests = s.requests.items;
+      values = record {
+        driven = map driven_in (helds s.slots.items s.plane);
+        forced = map forced_in (helds s.slots.items s.plane);
+        words = s.words.items;
+        requests = map last_request s.requests.items;
+      };
+      room = map is_some s.requests.items;
     } };
 
     ghost invariant = { λ s. IsKept s.slots.items s.plane };
@@ -205,15 +273,18 @@ impl Store {
     pub(crate) fn new(
         slots: Vec<Option<Slot>>,
         words: Vec<Words>,
-        requests: Vec<Request>,
+        requests: Vec<Room>,
         plane: Plane,
     ) -> Store
         requires { IsKept slots.items plane }
         ensures { result ≡ record {
-          driven = map driven_in (helds slots.items plane);
-          forced = map forced_in (helds slots.items plane);
-          words = words.items;
-          requests = requests.items;
+          values = record {
+            driven = map driven_in (helds slots.items plane);
+            forced = map forced_in (helds slots.items plane);
+            words = words.items;
+            requests = map last_request requests.items;
+          };
+          room = map is_some requests.items;
         } }
     {
         Store {
@@ -226,40 +297,40 @@ impl Store {
 
     /// The bits that each item is seen as, one x for an item without a value of its own.
     pub(crate) fn plane(&self) -> &Plane
-        ensures count { length result.now ≡ length self.now.driven }
-        ensures places { (item : ℕ) → item < length self.now.driven → slice_get result.now item ≡ Some (place_by_value self.now item) }
+        ensures count { length result.now ≡ length self.now.values.driven }
+        ensures places { (item : ℕ) → item < length self.now.values.driven → slice_get result.now item ≡ Some (place_by_value self.now.values item) }
     {
         &self.plane
     }
 
     /// The bits that an item is seen as.
     pub(crate) fn bits(&self, item: u32) -> Vec4
-        requires { 1 ≤ length (driven_of self.now item) }
-        ensures { result ≡ seen (levels_of self.now item) }
+        requires { 1 ≤ length (driven_of self.now.values item) }
+        ensures { result ≡ seen (levels_of self.now.values item) }
     {
         self.plane.get(item)
     }
 
     /// How many bits an item has.
     pub(crate) fn width(&self, item: u32) -> u8
-        requires { 1 ≤ length (driven_of self.now item) }
-        ensures { result ≡ length (driven_of self.now item) }
+        requires { 1 ≤ length (driven_of self.now.values item) }
+        ensures { result ≡ length (driven_of self.now.values item) }
     {
         self.plane.get(item).width()
     }
 
     /// Whether an item shows the bits that it is seen as, driven as a variable drives them, by what the plane alone tells.
     pub(crate) fn is_strong(&self, item: u32) -> bool
-        requires { 1 ≤ length (driven_of self.now item) }
-        ensures { result ≡ true → strongly (seen (levels_of self.now item)) ≡ levels_of self.now item }
+        requires { 1 ≤ length (driven_of self.now.values item) }
+        ensures { result ≡ true → strongly (seen (levels_of self.now.values item)) ≡ levels_of self.now.values item }
     {
         is_plain(self.slots.as_slice(), item)
     }
 
     /// What drives an item.
     pub(crate) fn driven(&self, item: u32) -> Vec8
-        requires { 1 ≤ length (driven_of self.now item) }
-        ensures { result ≡ driven_of self.now item }
+        requires { 1 ≤ length (driven_of self.now.values item) }
+        ensures { result ≡ driven_of self.now.values item }
     {
         match &self.slots[item as usize] {
             Some(slot) => slot.driven(self.plane.get(item)),
@@ -269,8 +340,8 @@ impl Store {
 
     /// The bits that what drives an item is seen as.
     pub(crate) fn driven_bits(&self, item: u32) -> Vec4
-        requires { 1 ≤ length (driven_of self.now item) }
-        ensures { result ≡ seen (driven_of self.now item) }
+        requires { 1 ≤ length (driven_of self.now.values item) }
+        ensures { result ≡ seen (driven_of self.now.values item) }
     {
         match &self.slots[item as usize] {
             Some(slot) => slot.driven_bits(self.plane.get(item)),
@@ -280,8 +351,8 @@ impl Store {
 
     /// The levels that an item shows.
     pub(crate) fn shown(&self, item: u32) -> Vec8
-        requires { 1 ≤ length (driven_of self.now item) }
-        ensures { result ≡ levels_of self.now item }
+        requires { 1 ≤ length (driven_of self.now.values item) }
+        ensures { result ≡ levels_of self.now.values item }
     {
         match &self.slots[item as usize] {
             Some(slot) => slot.shown(self.plane.get(item)),
@@ -291,8 +362,8 @@ impl Store {
 
     /// What is forced on a place of an item.
     pub(crate) fn forced(&self, item: u32, place: u8) -> Option<Level>
-        requires { place < length (forced_of self.now item) }
-        ensures { slice_get (forced_of self.now item) place ≡ Some result }
+        requires { place < length (forced_of self.now.values item) }
+        ensures { slice_get (forced_of self.now.values item) place ≡ Some result }
     {
         match &self.slots[item as usize] {
             Some(slot) => slot.forced(place),
@@ -303,11 +374,12 @@ impl Store {
     /// Drives an item with bits, as a variable drives them. Where the plane alone has its value, two vectors are compared.
     /// Whether its levels changed; `change` says then how it is seen.
     pub(crate) fn drive_bits(&mut self, item: u32, bits: Vec4, change: &mut Change) -> bool
-        requires there { 1 ≤ length (driven_of self.old item) }
-        requires width { length bits ≡ length (driven_of self.old item) }
-        ensures values { self.new ≡ with_parts item (strongly bits) (forced_of self.old item) self.old }
-        ensures change { IsChange (change_if result change.exit.now) (levels_of self.old item) (levels_of self.new item) }
+        requires there { 1 ≤ length (driven_of self.old.values item) }
+        requires width { length bits ≡ length (driven_of self.old.values item) }
+        ensures values { self.new.values ≡ with_parts item (strongly bits) (forced_of self.old.values item) self.old.values }
+        ensures change { IsChange (change_if result change.exit.now) (levels_of self.old.values item) (levels_of self.new.values item) }
         ensures bits { result ≡ true → HasBits change.exit.now }
+        ensures room { self.new.room ≡ self.old.room }
     {
         if is_plain(self.slots.as_slice(), item) {
             show_bits(&mut self.plane, item, bits, change)
@@ -319,22 +391,24 @@ impl Store {
     // Drives an item with the levels of bits. It stands out of line, so that a change of bits alone pays nothing for it.
     #[inline(never)]
     fn drive_strongly(&mut self, item: u32, bits: Vec4, change: &mut Change) -> bool
-        requires there { 1 ≤ length (driven_of self.old item) }
-        requires width { length bits ≡ length (driven_of self.old item) }
-        ensures values { self.new ≡ with_parts item (strongly bits) (forced_of self.old item) self.old }
-        ensures change { IsChange (change_if result change.exit.now) (levels_of self.old item) (levels_of self.new item) }
+        requires there { 1 ≤ length (driven_of self.old.values item) }
+        requires width { length bits ≡ length (driven_of self.old.values item) }
+        ensures values { self.new.values ≡ with_parts item (strongly bits) (forced_of self.old.values item) self.old.values }
+        ensures change { IsChange (change_if result change.exit.now) (levels_of self.old.values item) (levels_of self.new.values item) }
         ensures bits { result ≡ true → HasBits change.exit.now }
+        ensures room { self.new.room ≡ self.old.room }
     {
         self.drive_levels(item, drive(bits, 6, 6), change)
     }
 
     /// Drives an item with levels. Whether its levels changed; `change` says then how it is seen.
     pub(crate) fn drive_levels(&mut self, item: u32, levels: Vec8, change: &mut Change) -> bool
-        requires there { 1 ≤ length (driven_of self.old item) }
-        requires width { length levels ≡ length (driven_of self.old item) }
-        ensures values { self.new ≡ with_parts item levels (forced_of self.old item) self.old }
-        ensures change { IsChange (change_if result change.exit.now) (levels_of self.old item) (levels_of self.new item) }
+        requires there { 1 ≤ length (driven_of self.old.values item) }
+        requires width { length levels ≡ length (driven_of self.old.values item) }
+        ensures values { self.new.values ≡ with_parts item levels (forced_of self.old.values item) self.old.values }
+        ensures change { IsChange (change_if result change.exit.now) (levels_of self.old.values item) (levels_of self.new.values item) }
         ensures bits { result ≡ true → HasBits change.exit.now }
+        ensures room { self.new.room ≡ self.old.room }
     {
         let bits = self.plane.get(item);
         let (old, new) = drive_at(self.slots.as_mut_slice(), item, bits, levels);
@@ -344,11 +418,12 @@ impl Store {
     /// Forces every place of an item, as strongly as a variable drives. Whether its levels changed; `change` says then how
     /// it is seen.
     pub(crate) fn force(&mut self, item: u32, value: Vec4, change: &mut Change) -> bool
-        requires there { 1 ≤ length (driven_of self.old item) }
-        requires width { length value ≡ length (driven_of self.old item) }
-        ensures values { self.new ≡ with_parts item (driven_of self.old item) (map Some (strongly value)) self.old }
-        ensures change { IsChange (change_if result change.exit.now) (levels_of self.old item) (levels_of self.new item) }
+        requires there { 1 ≤ length (driven_of self.old.values item) }
+        requires width { length value ≡ length (driven_of self.old.values item) }
+        ensures values { self.new.values ≡ with_parts item (driven_of self.old.values item) (map Some (strongly value)) self.old.values }
+        ensures change { IsChange (change_if result change.exit.now) (levels_of self.old.values item) (levels_of self.new.values item) }
         ensures bits { result ≡ true → HasBits change.exit.now }
+        ensures room { self.new.room ≡ self.old.room }
     {
         let bits = self.plane.get(item);
         let (old, new) = force_at(self.slots.as_mut_slice(), item, bits, drive(value, 6, 6));
@@ -365,11 +440,12 @@ impl Store {
         keep: bool,
         change: &mut Change,
     ) -> bool
-        requires there { 1 ≤ length (driven_of self.old item) }
-        ensures values { self.new ≡ with_parts item (driven_after base width keep self.old item)
-            (map (forced_after base width) (enumerate_from 0 (forced_of self.old item))) self.old }
-        ensures change { IsChange (change_if result change.exit.now) (levels_of self.old item) (levels_of self.new item) }
+        requires there { 1 ≤ length (driven_of self.old.values item) }
+        ensures values { self.new.values ≡ with_parts item (driven_after base width keep self.old.values item)
+            (map (forced_after base width) (enumerate_from 0 (forced_of self.old.values item))) self.old.values }
+        ensures change { IsChange (change_if result change.exit.now) (levels_of self.old.values item) (levels_of self.new.values item) }
         ensures bits { result ≡ true → HasBits change.exit.now }
+        ensures room { self.new.room ≡ self.old.room }
     {
         let bits = self.plane.get(item);
         let (old, new) = release_at(self.slots.as_mut_slice(), item, bits, base, width, keep);
@@ -378,16 +454,17 @@ impl Store {
 
     /// A word of an array.
     pub(crate) fn word(&self, array: u32, word: u32) -> Vec4
-        requires { word < length (array_of self.now array) }
-        ensures { slice_get (array_of self.now array) word ≡ Some result }
+        requires { word < length (array_of self.now.values array) }
+        ensures { slice_get (array_of self.now.values array) word ≡ Some result }
     {
         self.words[array as usize].words[word as usize]
     }
 
     /// A value is laid over a word of an array, from a place up.
     pub(crate) fn lay_over(&mut self, array: u32, word: u32, offset: i64, value: Vec4)
-        requires { word < length (array_of self.old array) }
-        ensures { self.new ≡ with_word array word (overlaid (slice_index_or (array_of self.old array) word []) offset value) self.old }
+        requires { word < length (array_of self.old.values array) }
+        ensures values { self.new.values ≡ with_word array word (overlaid (slice_index_or (array_of self.old.values array) word []) offset value) self.old.values }
+        ensures room { self.new.room ≡ self.old.room }
     {
         let words = &mut self.words[array as usize];
         words.words[word as usize] = words.words[word as usize].put(offset, value);
@@ -395,17 +472,18 @@ impl Store {
 
     /// The last request of a net delay.
     pub(crate) fn request(&self, item: u32) -> Request
-        requires { item < length self.now.requests }
-        ensures { result ≡ request_of self.now item }
+        requires { item < length self.now.values.requests }
+        ensures { result ≡ request_of self.now.values item }
     {
-        self.requests[item as usize]
+        self.requests[item as usize].last()
     }
 
     /// Makes a request of a net delay.
     pub(crate) fn set_request(&mut self, item: u32, request: Request)
-        requires { item < length self.old.requests }
-        ensures { self.new ≡ with_request item request self.old }
+        requires { slice_get self.old.room item ≡ Some true }
+        ensures values { self.new.values ≡ with_request item request self.old.values }
+        ensures room { self.new.room ≡ self.old.room }
     {
-        self.requests[item as usize] = request;
+        self.requests[item as usize].set(request);
     }
 }

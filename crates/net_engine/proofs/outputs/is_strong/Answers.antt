@@ -7,4 +7,4 @@ use Rattle.net_engine.proofs.outputs.is_strong.Goals as goal
 
 pub returns-in-Fixed : goal.returns-in-Fixed
 returns-in-Fixed g c = λ same.
-    subst (λ (s : Source). option_map strongly (option_map seen (at_source c.args.design.now c.args.store.now s)) ≡ at_source c.args.design.now c.args.store.now s) (sym c.in-Fixed.is) (strong-fixed c.in-Fixed._bits)
+    subst (λ (s : Source). option_map strongly (option_map seen (at_source c.args.design.now c.args.store.now.values s)) ≡ at_source c.args.design.now c.args.store.now.values s) (sym c.in-Fixed.is) (strong-fixed c.in-Fixed._bits)

@@ -7,4 +7,4 @@ use Rattle.net_engine.proofs.net.Net.driven.Goals as goal
 
 pub driven-requires : goal.driven-requires
 driven-requires g c =
-    value-driven c.self.inside.design c.self.inside.store c.args.item c.self.invariant.linked c.self.invariant.wide (subst (λ (n : NetNow). HasValue (kind_of n.nodes c.args.item)) (sym c.self.view_is) c.requires)
+    value-driven c.self.inside.design c.self.inside.store.values c.args.item c.self.invariant.0.linked c.self.invariant.0.wide (subst (λ (n : NetNow). HasValue (kind_of n.nodes c.args.item)) (sym c.self.view_is) c.requires)

@@ -5,8 +5,8 @@ use Rattle.net_engine.specs.Kept.{NetNow}
 use Rattle.net_engine.proofs.CallLemmas.{gate-done}
 use Rattle.net_engine.proofs.net.Net.eval_gate.Goals as goal
 
-pub returns-in-Some-clause-state : goal.returns-in-Some-clause-state
-returns-in-Some-clause-state g c =
+pub returns-in-Pair-clause-state : goal.returns-in-Pair-clause-state
+returns-in-Pair-clause-state g c =
     gate-done c.args.self.now c.change_bits.new.self c.args.self.now.nodes c.args.self.now.values c.args.self.now.marks c.args.item (strongly c.pair_output-bits.result) c.args.threads.now c.change_bits.new.threads
     (g.A.Agenda.schedule c.args.agenda.now) (g.A.Agenda.schedule c.change_bits.new.agenda) refl c.requires.gate
     (subst (λ (n : NetNow). (node : Node) → slice_get n.nodes c.args.item ≡ Some node → strongly c.pair_output-bits.result ≡ output_of n.nodes n.values node) c.self.view_is c.pair_output-bits.ensures.value) c.change_bits.ensures.state

@@ -6,4 +6,4 @@ use Rattle.net_engine.proofs.net.Net.plane.Goals as goal
 
 pub returns : goal.returns
 returns g c =
-    plane-is c.self.inside.design c.self.inside.store c.plane.result.now c.self.invariant.linked c.self.invariant.wide c.plane.ensures.count c.plane.ensures.places ∙ ap (λ (n : NetNow). plane_of n.nodes n.values) c.self.view_is
+    plane-is c.self.inside.design c.self.inside.store.values c.plane.result.now c.self.invariant.0.linked c.self.invariant.0.wide c.plane.ensures.count c.plane.ensures.places ∙ ap (λ (n : NetNow). plane_of n.nodes n.values) c.self.view_is
