@@ -27,7 +27,6 @@ pub mod EffectLemmas
 pub mod EffectMoreLemmas
 pub mod TaskLemmas
 pub mod OpcodeLemmas
-pub mod LocalLemmas
 pub mod MethodLemmas
 pub mod Computing
 pub mod Words

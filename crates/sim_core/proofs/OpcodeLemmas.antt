@@ -1,5 +1,6 @@
 -- The next opcode of the thread that runs: what it leaves, and that it is the machine's step.
 use Rattle.std.proofs.Common.{◌≡◌, ℕ, zero, suc, ◌+◌, ◌<◌, max, false, Option, Some, None, option_map, IfSome, List, [], ◌∷◌, length, set, refl, sym, ap, subst, ◌∙◌, arith}
+use Rattle.std.specs.Prelude.{◌*◌, ◌^◌}
 use Rattle.std.specs.List.{slice_get}
 use Rattle.std.specs.Option.{ForSome}
 use Rattle.std.proofs.lemmas.List.{length-set}
@@ -27,7 +28,7 @@ use Rattle.sim_core.specs.Effects.{affect, done as opcode_done}
 use Rattle.sim_core.specs.Step.{proceed, proceeds}
 use Rattle.sim_core.specs.Engine.{Sent, Shown, in_turn_of_machine, with_sent}
 use Rattle.sim_core.specs.Kept.{IsSound}
-use Rattle.sim_core.specs.Parts.{Cut, Done, EffectFits, FrameDone, Heeds, HeedsFail, LeavesBy, MayAffect, Runs, ShownFails, ShownSteps, peaked, stepped}
+use Rattle.sim_core.specs.Parts.{Begun, Cut, Done, EffectFits, FrameDone, Heeds, HeedsFail, LeavesBy, MayAffect, Runs, ShownFails, ShownSteps, peaked, stepped}
 use Rattle.sim_core.proofs.CountLemmas.{affect-stepped}
 use Rattle.sim_core.proofs.DescendLemmas.{AreAmong}
 use Rattle.sim_core.proofs.EffectFitLemmas.{does-fits}
@@ -258,6 +259,11 @@ begun-runs old begun serial thread begins runs = record {
   running = ap (λ (s : Shown). s.machine.running) begins ∙ runs.running;
   live = ap (λ (s : Shown). thread_of s.machine.state.threads serial) begins ∙ runs.live;
 }
+
+-- a step has begun
+pub has-begun : (old begun : Shown) (serial : ℕ) (thread : Thread) → Runs old serial thread → begun ≡ record old { machine = stepped old.machine }
+    → (old.failed ≡ false → length old.machine.state.threads.threads < old.machine.steps + 1 + length old.program.threads) → old.machine.steps < 3 * 2 ^ 62 → Begun old begun serial thread
+has-begun old begun serial thread runs begins drawn few = record { runs = runs; begins = begins; drawn = drawn runs.fine; few = few }
 
 -- a thread more may be drawn in it
 pub left-drawn : (old begun left : Shown) (effect : Option Effect) (serial : ℕ) (thread : Thread) → begun ≡ record old { machine = stepped old.machine } → LeavesBy effect begun left serial thread

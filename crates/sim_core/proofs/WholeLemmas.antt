@@ -117,20 +117,12 @@ abbrev at_place : ℕ → Thread → Frame
 at_place place thread = record thread.frame { pc = place }
 
 pub placed-sound : (w : Whole) (old : Shown) (serial : ℕ) (thread : Thread) (r : Running) (place : ℕ) (threads : KeyedTable) → shown_of w ≡ old → (w.failed ≡ false → IsSound w.held) → Runs old serial thread → w.held.running ≡ Some r
-    → ((s : ℕ) (t : Thread) → IsKeyOf w.held.threads s r.key → thread_of w.held.threads.table s ≡ Some t → threads ≡ record w.held.threads { table = framed s (record t.frame { pc = place }) w.held.threads.table })
+    → (IsKeyOf w.held.threads serial r.key → thread_of w.held.threads.table serial ≡ Some thread → threads ≡ record w.held.threads { table = framed serial (record thread.frame { pc = place }) w.held.threads.table })
     → w.failed ≡ false → IsSound (record w.held { threads = threads })
 placed-sound w old serial thread r place threads view inv runs is goes fine =
     let a = runs-at w old serial thread r view inv runs is in
-    subst (λ (t : KeyedTable). IsSound (record w.held { threads = t })) (sym (goes serial thread a.key a.live))
+    subst (λ (t : KeyedTable). IsSound (record w.held { threads = t })) (sym (goes a.key a.live))
     (sound-framed w.held serial (at_place place thread) thread a.live (λ place child e. (place, e)) a.sound)
-
-pub placed-shown : (w : Whole) (old : Shown) (serial : ℕ) (thread : Thread) (r : Running) (place : ℕ) (threads : KeyedTable) → shown_of w ≡ old → (w.failed ≡ false → IsSound w.held) → Runs old serial thread → w.held.running ≡ Some r
-    → ((s : ℕ) (t : Thread) → IsKeyOf w.held.threads s r.key → thread_of w.held.threads.table s ≡ Some t → threads ≡ record w.held.threads { table = framed s (record t.frame { pc = place }) w.held.threads.table })
-    → shown_of (record w { held = record w.held { threads = threads } }) ≡ record old { machine = placed serial thread.frame place old.machine }
-placed-shown w old serial thread r place threads view inv runs is goes =
-    let a = runs-at w old serial thread r view inv runs is in
-    ap (λ (t : KeyedTable). shown_of (record w { held = record w.held { threads = t } })) (goes serial thread a.key a.live)
-    ∙ ap (λ (s : Shown). record s { machine = placed serial thread.frame place s.machine }) view
 
 -- what runs then
 pub next-runs : (old mid : Shown) (serial : ℕ) (thread : Thread) → CanGoOn old serial thread → mid ≡ record old { machine = at_next serial thread.frame old.machine }

@@ -13,7 +13,7 @@ ghost use Rattle.sim_core.specs.Parts.{Runs, CanGoOn, ShownFollows, ShownFails, 
 
 use crate::ending::Ending;
 use crate::engine::Engine;
-use crate::pieces::{go_to, join_on, make_room, place_of, region_after, still, unless};
+use crate::pieces::{go_next, go_to, join_on, make_room, place_of, region_after, still, unless};
 use event_pool::{Act, Agenda, Due, Region};
 use four_state::Vec4;
 use op_exec::{Effect, TrapKind};
@@ -41,8 +41,7 @@ impl<A: Agenda + Drop, F: Fanout + Drop> Engine<A, F> {
             → self.new ≡ record self.old { machine = at_next serial thread.frame self.old.machine } }
     {
         let running = self.running.unwrap();
-        let place = place_of(&self.threads, running.key);
-        go_to(&mut self.threads, running.key, place + 1);
+        go_next(&mut self.threads, running.key);
     }
 
     /// The run ends by a trap at the running thread's opcode.

@@ -69,26 +69,6 @@ pub(crate) fn do_local<V: Values>(code: &[Op<u32>], frame: &mut Frame, values: &
     }
 }
 
-// The same for the thread under a key.
-#[inline(always)]
-fn do_local_at<V: Values>(
-    threads: &mut Threads,
-    key: usize,
-    code: &[Op<u32>],
-    values: &V,
-) -> Option<Local>
-    requires live { (serial : ℕ) × (thread : Thread) × IsKeyOf threads.old serial key × (thread_of threads.old.table serial ≡ Some thread) }
-    requires fits { (place : ℕ) (op : Op ℕ) → slice_get code.now place ≡ Some op → IsExecutable (V.words_of values.now) op }
-    ensures done { IfSome result (λ local. (serial : ℕ) (thread : Thread) → IsKeyOf threads.old serial key → thread_of threads.old.table serial ≡ Some thread
-        → Locally (λ effect. FrameDone effect code.now (V.words_of values.now) threads.old threads.new serial thread) (threads.new ≡ threads.old) local) }
-    ensures kept { IfNone result (threads.new ≡ threads.old) }
-{
-    match threads.get_mut(key) {
-        Some(frame) => do_local(code, frame, values),
-        None => unreachable!(),
-    }
-}
-
 // Does the opcode at which a thread stands, on its own frame, and answers its effect; none where it stands past the last
 // opcode. Where memory is wanting, the frame stays.
 fn do_opcode<V: Values>(
@@ -149,62 +129,13 @@ impl<A: Agenda + Drop, F: Fanout + Drop> Engine<A, F> {
         ensures kept { OnErr result (Untouched self.old.machine self.new.machine) }
     {
         self.begin_step();
-        match self.do_local() {
-            Some(local) => self.heed_local(local),
-            None => self.ask(),
-        }
+        self.do_next()
     }
 
-    // Does the running thread's next opcode on its own frame, where it asks nothing of the run but to go on; none, and nothing
-    // is done, where it asks more.
-    #[inline(always)]
-    fn do_local(&mut self) -> Option<Local>
-        requires at { (serial : ℕ) × (thread : Thread) × Runs self.old serial thread }
-        ensures done { IfSome result (λ local. (serial : ℕ) (thread : Thread) → Runs self.old serial thread
-            → Locally (λ effect. LeavesBy effect self.old self.new serial thread) (self.new ≡ self.old) local) }
-        ensures kept { IfNone result (self.new ≡ self.old) }
-    {
-        let running = self.running.unwrap();
-        self.net.widths();
-        let code = self.program.code.as_slice();
-        do_local_at(&mut self.threads, running.key, code, &self.net)
-    }
-
-    // Ends a step whose opcode asked nothing of the run but to go on.
-    #[inline(always)]
-    fn heed_local(&mut self, local: Local) -> Result<(), AllocError>
-        requires at { (old begun : Shown) × (serial : ℕ) × (thread : Thread) × Begun old begun serial thread
-            × Locally (λ effect. LeavesBy effect begun self.old serial thread) (self.old ≡ begun) local }
-        ensures ok { OnOk result ((old begun : Shown) (serial : ℕ) (thread : Thread) → Begun old begun serial thread
-            → Locally (λ effect. LeavesBy effect begun self.old serial thread) (self.old ≡ begun) local → ShownSteps (proceed old.program serial) old self.new) }
-        ensures err { OnErr result ((old begun : Shown) (serial : ℕ) (thread : Thread) → Begun old begun serial thread
-            → Locally (λ effect. LeavesBy effect begun self.old serial thread) (self.old ≡ begun) local → ShownFails (proceed old.program serial) old self.new) }
-        ensures kept { OnErr result ((old begun : Shown) (serial : ℕ) (thread : Thread) → Begun old begun serial thread
-            → Locally (λ effect. LeavesBy effect begun self.old serial thread) (self.old ≡ begun) local → Untouched old.machine self.new.machine) }
-    {
-        match local {
-            Local::Next => {
-                self.go_next();
-                self.see_peak();
-                Ok(())
-            }
-            Local::Goto(place) => {
-                self.go_to(place);
-                self.see_peak();
-                Ok(())
-            }
-            Local::Trap(kind) => {
-                self.trap(kind);
-                self.see_peak();
-                Ok(())
-            }
-            Local::NoMemory => Err(AllocError),
-        }
-    }
-
-    // Does the running thread's next opcode, which asks something of the run, and what its effect says, of a step that has begun.
+    // Does the running thread's next opcode, and what its effect says, of a step that has begun. It stands out of line, so that a
+    // step without a running thread pays nothing for it.
     #[inline(never)]
-    fn ask(&mut self) -> Result<(), AllocError>
+    fn do_next(&mut self) -> Result<(), AllocError>
         requires at { (old : Shown) × (serial : ℕ) × (thread : Thread) × Begun old self.old serial thread }
         ensures ok { OnOk result ((old : Shown) (serial : ℕ) (thread : Thread) → Begun old self.old serial thread → ShownSteps (proceed old.program serial) old self.new) }
         ensures err { OnErr result ((old : Shown) (serial : ℕ) (thread : Thread) → Begun old self.old serial thread → ShownFails (proceed old.program serial) old self.new) }

@@ -38,6 +38,17 @@ pub(crate) fn go_to(threads: &mut Threads, key: usize, place: u32)
     }
 }
 
+/// The thread under a key goes on at the next place of the code.
+pub(crate) fn go_next(threads: &mut Threads, key: usize)
+    requires { (serial : ℕ) × (thread : Thread) × IsKeyOf threads.old serial key × (thread_of threads.old.table serial ≡ Some thread) × (thread.frame.pc + 1 < 2 ^ 32) }
+    ensures { (serial : ℕ) (thread : Thread) → IsKeyOf threads.old serial key → thread_of threads.old.table serial ≡ Some thread
+        → threads.new ≡ record threads.old { table = framed serial (record thread.frame { pc = thread.frame.pc + 1 }) threads.old.table } }
+{
+    if let Some(frame) = threads.get_mut(key) {
+        frame.pc += 1;
+    }
+}
+
 /// Makes room for one due more than the live threads and the gates and net delays may want, or than there is room for. What is
 /// pending stays.
 pub(crate) fn make_room<A: Agenda>(

@@ -3,7 +3,7 @@ use Rattle.std.proofs.lemmas.Result.{err_from_is_err_and}
 use Rattle.vvp_threads.specs.Table.{with_frame}
 use Rattle.sim_core.proofs.OpcodeLemmas.{begun-runs, left-drawn, left-steps, opcode-fails, opcode-steps, opcode-unprinted}
 use Rattle.sim_core.proofs.RefusedLemmas.{left-untouched, stepped-untouched, untouched-then}
-use Rattle.sim_core.proofs.engine.Engine.ask.Goals as goal
+use Rattle.sim_core.proofs.engine.Engine.do_next.Goals as goal
 
 pub do_opcode-requires : goal.do_opcode-requires
 do_opcode-requires g c = record { at = (c.requires.at.1, c.requires.at.2, (begun-runs c.requires.at.0 c.args.self.now c.requires.at.1 c.requires.at.2 c.requires.at.3.begins c.requires.at.3.runs)) }
