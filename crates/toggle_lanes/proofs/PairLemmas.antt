@@ -1,16 +1,16 @@
 -- The bits that planes gain are the places that rise.
-use Rattle.std.proofs.Common.{◌≡◌, ℕ, zero, suc, ◌+◌, ◌*◌, ◌/◌, ◌%◌, ◌^◌, ◌<◌, ◌≤◌, add_comm, List, [], ◌∷◌, length, map, refl, sym, ap, ◌∙◌, arith, Bool, true, false, cond}
-use Rattle.std.specs.Prelude.{bit_and, bit_or, bit_xor, count_by}
+use Rattle.std.proofs.Common.{◌≡◌, ℕ, suc, ◌+◌, ◌*◌, ◌/◌, ◌%◌, ◌^◌, ◌<◌, ◌≤◌, add_comm, List, [], ◌∷◌, length, map, refl, sym, ap, ◌∙◌, arith, Bool, cond}
+use Rattle.std.specs.Prelude.{bit_and, bit_or, bit_xor}
 use Rattle.std.specs.Int.RustNames.{count_ones}
 use Rattle.std.specs.List.{zip}
 use Rattle.std.specs.Simd.Lanes.{mask_l}
 use Rattle.std.proofs.lemmas.Nat.{and_block, or_block, xor_block, and_mod, or_mod, xor_mod, or_lt, and_le_l, and_shr, or_shr, xor_shr, ones_cat, div-add-mod'}
+use Rattle.std.proofs.Math.Nat.{div-eq_of_lt, lt_of_lt_of_le, pow-le-pow_right, pow-suc}
 use Rattle.std.proofs.lemmas.Simd.{ones-mask_l}
 use Rattle.std.proofs.lemmas.List.Sums.{sum_by-cons}
 use Rattle.four_state.specs.declared.bits.Bit.{Bit}
 use Rattle.four_state.specs.declared.bits.Bit.TheVariants.{Zero, One, Unknown, HighZ}
 use Rattle.four_state.specs.Planes.{low_digit, high_digit, low_plane, high_plane}
-use Rattle.four_state.specs.PlaneLemmas.{low_plane-cons}
 use Rattle.toggle_lanes.specs.Counts.{is_rise, is_fall, places_that}
 use Rattle.toggle_lanes.specs.Lanes.{gained}
 
@@ -135,3 +135,26 @@ halves a b c d =
   where
     mod-lt : (n : ℕ) → n % 2 ^ 64 < 2 ^ 64
     mod-lt n = omega arith
+
+-- ---- planes of at most 64 places have no high half
+below : (digit half n : ℕ) → digit < 2 ^ 1 → half < 2 ^ n → digit + 2 * half < 2 ^ suc n
+below digit half n h f = omega (arith, pow-suc)
+
+low-below : (value : List Bit) → low_plane value < 2 ^ length value
+unfolding low_plane
+low-below [] = omega arith
+low-below (bit ∷ bits) = below (low_digit bit) (low_plane bits) (length bits) (low-small bit) (low-below bits)
+
+high-below : (value : List Bit) → high_plane value < 2 ^ length value
+unfolding high_plane
+high-below [] = omega arith
+high-below (bit ∷ bits) = below (high_digit bit) (high_plane bits) (length bits) (high-small bit) (high-below bits)
+
+no-half : (plane places : ℕ) → plane < 2 ^ places → places ≤ 64 → plane / 2 ^ 64 ≡ 0
+no-half plane places h few = div-eq_of_lt (lt_of_lt_of_le h (pow-le-pow_right {n = 2} (omega arith) few))
+
+pub low-half : (value : List Bit) → length value ≤ 64 → low_plane value / 2 ^ 64 ≡ 0
+low-half value few = no-half (low_plane value) (length value) (low-below value) few
+
+pub high-half : (value : List Bit) → length value ≤ 64 → high_plane value / 2 ^ 64 ≡ 0
+high-half value few = no-half (high_plane value) (length value) (high-below value) few

@@ -1,5 +1,5 @@
 -- The rows of the report.
-use Rattle.std.proofs.Common.{◌≡◌, ℕ, zero, suc, ◌+◌, ◌-◌, ◌<◌, ◌≤◌, ◌^◌, List, [], ◌∷◌, ◌++◌, length, get_or, map, replicate, refl, sym, ap, ◌∙◌, arith, All, take, length-take}
+use Rattle.std.proofs.Common.{◌≡◌, ℕ, suc, ◌+◌, ◌<◌, List, [], ◌∷◌, ◌++◌, length, get_or, map, refl, sym, ap, ◌∙◌, arith, All, take, length-take}
 use Rattle.std.specs.List.{enumerate_from, range_with_len}
 use Rattle.std.proofs.lemmas.List.{get_or-map, map-append, length-map, take_more}
 use Rattle.std.proofs.lemmas.List.Elements.{All-head, All-tail}
@@ -46,11 +46,6 @@ row-pushed counts vars var i moves rows new e within is there f =
     ∙ (ap (λ m. map (row_by by) (enumerate_from 0 (take i vars)) ++ row_with i m ∷ []) (sym there)
     ∙ (sym (rows-more by (take i vars) var i long)
     ∙ ap (λ xs. map (row_by by) (enumerate_from 0 xs)) (ap (λ v. take i vars ++ v ∷ []) is ∙ sym (take_more vars i var within)))))
-
-pub get_or-any : {X : Type 0} (xs : List X) (i : ℕ) (d e : X) → i < length xs → get_or xs i d ≡ get_or xs i e
-get_or-any [] i d e h = absurd (omega (arith, h))
-get_or-any (x ∷ xs) zero d e h = refl
-get_or-any (x ∷ xs) (suc i) d e h = get_or-any xs i d e (omega (arith, h))
 
 -- rows whose nets move as often are the same
 rows-same : (f g : ℕ → Moves) (from : ℕ) (vars : List VcdVar) → All (λ var. f var.net ≡ g var.net) vars → map (row_by f) (enumerate_from from vars) ≡ map (row_by g) (enumerate_from from vars)

@@ -1,6 +1,6 @@
--- Values as lanes: of each value, bits 0 to 63 and bits 64 to 127 of its two planes.
-use Rattle.std.specs.Prelude.{◌≡◌, ℕ, ◌+◌, ◌-◌, ◌/◌, ◌%◌, ◌^◌, ◌<◌, ◌≤◌, List, [], ◌∷◌, ◌++◌, length, map, sum_by, slice_index, slice_index_or, bit_and, bit_or, bit_xor}
-use Rattle.std.specs.List.{range_with_len}
+-- Values as lanes: of each value bits 0 to 63 of its two planes, and, where it has so many places, bits 64 to 127.
+use Rattle.std.specs.Prelude.{◌≡◌, ℕ, ◌+◌, ◌-◌, ◌/◌, ◌%◌, ◌^◌, ◌<◌, ◌≤◌, nat_lt, List, ◌∷◌, ◌++◌, length, map, sum_by, slice_index, slice_index_or, bit_and, bit_or, bit_xor}
+use Rattle.std.specs.List.{filter, range_with_len}
 use Rattle.std.specs.Int.RustNames.{count_ones}
 use Rattle.std.specs.Simd.Lanes.{zip2}
 use Rattle.four_state.specs.declared.bits.Bit.{Bit}
@@ -12,13 +12,17 @@ use Rattle.toggle_lanes.specs.declared.lanes.NetLanes.{NetLanes}
 use Rattle.toggle_lanes.specs.declared.rows.Row.{Row}
 use Rattle.toggle_lanes.specs.Counts.{first_value, values_of}
 
--- the lanes of these values
+-- the values of more than 64 places, which alone have bits from 64 on
+abbrev pub above_64 : List (List Bit) → List (List Bit)
+above_64 values = filter (λ value. nat_lt 64 (length value)) values
+
+-- the lanes of these values: one a value for bits 0 to 63, one a value of more than 64 places for bits 64 to 127
 abbrev pub lanes_of : List (List Bit) → NetLanes
 lanes_of values = record {
   a_low = map (λ value. low_plane value % 2 ^ 64) values;
-  a_high = map (λ value. low_plane value / 2 ^ 64) values;
+  a_high = map (λ value. low_plane value / 2 ^ 64) (above_64 values);
   b_low = map (λ value. high_plane value % 2 ^ 64) values;
-  b_high = map (λ value. high_plane value / 2 ^ 64) values;
+  b_high = map (λ value. high_plane value / 2 ^ 64) (above_64 values);
 }
 
 -- lanes and, after them, those of more values
@@ -75,12 +79,10 @@ moves_of lanes = record {
 abbrev pub no_moves : Moves
 no_moves = record { rises = 0; falls = 0 }
 
--- lists in step, of at least one value and not more than can be counted in 64 bits
+-- lists in step, of no more values than can be counted in 64 bits
 pub record IsCountable (lanes : NetLanes) : Type 0 where
   pub low : length lanes.b_low ≡ length lanes.a_low
   pub high : length lanes.b_high ≡ length lanes.a_high
-  pub some_low : 1 ≤ length lanes.a_low
-  pub some_high : 1 ≤ length lanes.a_high
   pub few_low : length lanes.a_low ≤ 2 ^ 56 + 1
   pub few_high : length lanes.a_high ≤ 2 ^ 56 + 1
 

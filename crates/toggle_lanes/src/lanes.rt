@@ -62,8 +62,9 @@ impl Lanes {
     }
 }
 
-/// The low plane `a` and the high plane `b` of a net's values, each as the lists of its bits 0 to 63 and of its bits 64
-/// to 127. All four lists have one entry for each value, and places that the net doesn't have are 0.
+/// The low plane `a` and the high plane `b` of a net's values, each as the list of its bits 0 to 63 and that of its bits
+/// 64 to 127. A list has one entry for each value, and places that the net doesn't have are 0. Where the net has at most
+/// 64 places, the lists of bits 64 to 127 are empty.
 #[derive(Drop)]
 pub(crate) struct NetLanes {
     a_low: Lanes,
@@ -95,9 +96,11 @@ impl NetLanes {
     {
         let (a, b) = planes_of(value);
         self.a_low.push(low_half(a))?;
-        self.a_high.push(high_half(a))?;
         self.b_low.push(low_half(b))?;
-        self.b_high.push(high_half(b))?;
+        if value.width() > 64 {
+            self.a_high.push(high_half(a))?;
+            self.b_high.push(high_half(b))?;
+        }
         Ok(())
     }
 
@@ -127,16 +130,18 @@ impl Moves {
     }
 }
 
-/// How often the bits of one half of the planes move, from each entry to the next.
+/// How often the bits of one half of the planes move, from each entry to the next. Without entries nothing moves.
 fn moves_in(a: &[u64], b: &[u64]) -> Moves
     requires as_many { length b.now ≡ length a.now }
-    requires some { 1 ≤ length a.now }
     requires few { length a.now ≤ 2 ^ 56 + 1 }
     ensures rises { result.rises ≡ lane_rises a.now b.now 0 (length a.now - 1) }
     ensures falls { result.falls ≡ lane_falls a.now b.now 0 (length a.now - 1) }
     ensures few_rises { result.rises ≤ 2 ^ 62 }
     ensures few_falls { result.falls ≤ 2 ^ 62 }
 {
+    if a.is_empty() {
+        return Moves { rises: 0, falls: 0 };
+    }
     let pairs = a.len() - 1;
     let fours = pairs / LANES;
     in_fours(a, b, fours).and(one_by_one(a, b, fours * LANES, pairs))

@@ -12,7 +12,7 @@ use crate::lanes::{Moves, NetLanes};
 use std::alloc::{AllocError, Global};
 use vcd_read::{Changes, Trace, VcdVar};
 
-/// More values than this don't fit in memory: the lanes of each take 32 bytes.
+/// More values than this don't fit in memory: the lanes of each take 16 bytes at least.
 const MOST_VALUES: usize = 1 << 56;
 
 /// How often the places of a variable rise and fall.
@@ -56,7 +56,7 @@ fn unknown(alloc: Global, widths: &[u8]) -> Result<Vec<NetLanes>, AllocError>
     requires most { All (λ width. width ≤ 128) widths.now }
     ensures { IfOk result (λ nets. nets.items ≡ map (λ width. lanes_of (replicate width Unknown ∷ [])) widths.now) }
 {
-    let mut nets = Vec::new(alloc);
+    let mut nets = Vec::with_capacity(alloc, widths.len())?;
     for width in widths {
         nets.push(NetLanes::unknown(alloc, *width)?)?;
     }
@@ -79,7 +79,7 @@ fn counts(alloc: Global, nets: &[NetLanes]) -> Result<Vec<Moves>, AllocError>
     requires { All IsCountable nets.now }
     ensures { IfOk result (λ counts. counts.items ≡ map moves_of nets.now) }
 {
-    let mut counts = Vec::new(alloc);
+    let mut counts = Vec::with_capacity(alloc, nets.len())?;
     for net in nets {
         counts.push(net.moves())?;
     }
@@ -92,7 +92,7 @@ fn rows(alloc: Global, vars: &[VcdVar], counts: &[Moves]) -> Result<Vec<Row>, Al
     requires there { All (λ var. var.net < length counts.now) vars.now }
     ensures { IfOk result (λ rows. rows.items ≡ map (λ numbered. row_with numbered.0 (slice_index_or counts.now numbered.1.net no_moves)) (enumerate_from 0 vars.now)) }
 {
-    let mut rows = Vec::new(alloc);
+    let mut rows = Vec::with_capacity(alloc, vars.len())?;
     for (i, var) in vars.iter().enumerate() {
         let Moves { rises, falls } = moves_at(counts, var.net);
         rows.push(Row {

@@ -1,6 +1,17 @@
-use Rattle.std.proofs.Common.{◌*◌, ◌-◌, length, refl, arith}
-use Rattle.toggle_lanes.proofs.SumLemmas.{rises-more, falls-more, in-parts}
+use Rattle.std.proofs.Common.{◌≡◌, ◌∙◌, ◌-◌, length, sym, arith}
+use Rattle.std.proofs.lemmas.Bool.{eqb-true}
+use Rattle.toggle_lanes.proofs.SumLemmas.{rises-none, falls-none, rises-more, falls-more, in-parts}
 use Rattle.toggle_lanes.proofs.lanes.moves_in.Goals as goal
+
+pub returns-then-is_empty-clause-rises : goal.returns-then-is_empty-clause-rises
+returns-then-is_empty-clause-rises c =
+    let empty : length c.args.a.now ≡ 0 = eqb-true (length c.args.a.now) 0 (sym c.is_empty.ensures ∙ c.if-is_empty.true) in
+    sym (rises-none c.args.a.now c.args.b.now 0 _ (omega arith))
+
+pub returns-then-is_empty-clause-falls : goal.returns-then-is_empty-clause-falls
+returns-then-is_empty-clause-falls c =
+    let empty : length c.args.a.now ≡ 0 = eqb-true (length c.args.a.now) 0 (sym c.is_empty.ensures ∙ c.if-is_empty.true) in
+    sym (falls-none c.args.a.now c.args.b.now 0 _ (omega arith))
 
 pub returns-clause-rises : goal.returns-clause-rises
 returns-clause-rises c =

@@ -1,4 +1,4 @@
-use Rattle.toggle_lanes.proofs.RowLemmas.{get_or-any}
+use Rattle.toggle_lanes.proofs.FillLemmas.{get_or-any}
 use Rattle.toggle_lanes.proofs.rows.moves_at.Goals as goal
 
 pub returns : goal.returns
