@@ -1,22 +1,22 @@
 //! The rows that load, store, jump, and ask something of the run.
 
-ghost use Rattle.std.specs.Prelude.{◌≡◌, ◌+◌, ◌<◌, ◌≤◌, Ok, OnErr, IfOk, IfSome, IfNone, length, if◌then◌else◌};
+ghost use Rattle.std.specs.Prelude.{◌≡◌, ◌+◌, ◌<◌, ◌≤◌, Ok, Err, OnErr, IfOk, IfErr, IfSome, IfNone, length, if◌then◌else◌};
 ghost use Rattle.four_state.specs.Vector.{is_zero, is_one};
 ghost use Rattle.op_exec.specs.declared.effect.Effect.TheVariants.{Release};
 ghost use Rattle.op_exec.specs.declared.effect.Local.TheVariants.{Goto, Next};
 ghost use Rattle.op_exec.specs.Executable.{IsExecutable};
-ghost use Rattle.op_exec.specs.Rows.{is_blocked, value_of};
+ghost use Rattle.op_exec.specs.Rows.{WithMemory, is_blocked, pushed, value_of};
 ghost use Rattle.op_exec.specs.EffectRows.{offset_at, delay_at, word_at, word_or_x, loaded, stored, word_stored, assigned, offset_assigned, word_assigned, joined_last, forced, effect_row};
 ghost use Rattle.op_exec.specs.Outcomes.{with_trap, IsDone};
 
 use crate::calls::{call_function, call_task};
-use crate::effect::{Effect, Local, TrapKind, effect_of};
+use crate::effect::{Effect, Local, Memory, TrapKind, effect_of};
 use crate::register_rows::{halves, value};
-use crate::stack_words::{DEPTH, fits, has_top, take};
+use crate::stack_words::{fits, has_top, push, take};
 use four_state::{Bit, Values, Vec4};
 use std::alloc::AllocError;
 use vvp_ops::Op;
-use vvp_threads::Frame;
+use vvp_threads::{Frame, Stack};
 
 /// Whether a bit is 1.
 #[inline(always)]
@@ -134,39 +134,28 @@ fn jump(target: u32, test: bool) -> Local
     }
 }
 
-/// Pushes a value.
-#[inline(always)]
-#[tactic(auto, unfolding(crate::specs::Rows::pushed))]
-fn push_value(t: &mut Frame, item: Vec4) -> Local
-    ensures { IsDone result t.old t.new (with_trap t.old (loaded t.old item)) }
-{
-    if t.stack.len() >= DEPTH {
-        return Local::Trap(TrapKind::StackOver);
-    }
-    match t.stack.push(item) {
-        Ok(()) => Local::Next,
-        Err(_) => Local::NoMemory,
-    }
-}
-
 /// Pushes the value of an item.
 #[inline(never)]
-fn load<V: Values>(t: &mut Frame, v: &V, item: u32) -> Local
+fn load<V: Values>(stack: &mut Stack, v: &V, item: u32) -> Result<Memory, TrapKind>
     requires { 1 ≤ length (V.words_of v.now item) }
-    ensures { IsDone result t.old t.new (with_trap t.old (loaded t.old (value_of (V.words_of v.now item)))) }
+    ensures done { IfOk result (λ memory. WithMemory memory (pushed stack.old (value_of (V.words_of v.now item)) ≡ Ok stack.new) (stack.new ≡ stack.old)) }
+    ensures trap { IfErr result (λ kind. pushed stack.old (value_of (V.words_of v.now item)) ≡ Err kind) }
+    ensures kept { OnErr result (stack.new ≡ stack.old) }
 {
-    push_value(t, value(v, item))
+    push(stack, value(v, item))
 }
 
 /// Pushes a word of an array, or all x.
 #[inline(never)]
-fn load_word<V: Values>(t: &mut Frame, v: &V, array: u32, index: u64) -> Local
+fn load_word<V: Values>(t: &mut Frame, v: &V, array: u32, index: u64) -> Result<Memory, TrapKind>
     requires index { index < 16 }
     requires array { 1 ≤ length (V.words_of v.now array) }
-    ensures { IsDone result t.old t.new (with_trap t.old (loaded t.old (word_or_x (V.words_of v.now array) (word_at t.old (V.words_of v.now array) index)))) }
+    ensures done { IfOk result (λ memory. WithMemory memory (loaded t.old (word_or_x (V.words_of v.now array) (word_at t.old (V.words_of v.now array) index)) ≡ Ok (t.new, Effect.Next)) (t.new ≡ t.old)) }
+    ensures trap { IfErr result (λ kind. loaded t.old (word_or_x (V.words_of v.now array) (word_at t.old (V.words_of v.now array) index)) ≡ Err kind) }
+    ensures kept { OnErr result (t.new ≡ t.old) }
 {
     let word = word_at(t, v, array, index);
-    push_value(t, word_or_x(v, array, word))
+    push(&mut t.stack, word_or_x(v, array, word))
 }
 
 /// Pops a value of this width, and writes it.
@@ -371,8 +360,16 @@ pub(crate) fn local_row<V: Values>(op: &Op<u32>, t: &mut Frame, v: &V) -> Option
 {
     match op {
         Op::Nop => Some(Local::Next),
-        Op::Load { item } => Some(load(t, v, *item)),
-        Op::LoadWord { array, index } => Some(load_word(t, v, *array, *index)),
+        Op::Load { item } => match load(&mut t.stack, v, *item) {
+            Ok(Memory::Enough) => Some(Local::Next),
+            Ok(Memory::Short) => Some(Local::NoMemory),
+            Err(kind) => Some(Local::Trap(kind)),
+        },
+        Op::LoadWord { array, index } => match load_word(t, v, *array, *index) {
+            Ok(Memory::Enough) => Some(Local::Next),
+            Ok(Memory::Short) => Some(Local::NoMemory),
+            Err(kind) => Some(Local::Trap(kind)),
+        },
         Op::Jump { target } => Some(Local::Goto(*target)),
         Op::JumpIfZero { target, flag } => Some(jump(*target, is_zero(t.flags[*flag as usize]))),
         Op::JumpIfOne { target, flag } => Some(jump(*target, is_one(t.flags[*flag as usize]))),
@@ -399,8 +396,16 @@ pub(crate) fn effect_row<V: Values>(
 {
     match op {
         Op::Nop => Ok(Effect::Next),
-        Op::Load { item } => effect_of(load(t, v, *item)),
-        Op::LoadWord { array, index } => effect_of(load_word(t, v, *array, *index)),
+        Op::Load { item } => match load(&mut t.stack, v, *item) {
+            Ok(Memory::Enough) => Ok(Effect::Next),
+            Ok(Memory::Short) => Err(AllocError),
+            Err(kind) => Ok(Effect::Trap(kind)),
+        },
+        Op::LoadWord { array, index } => match load_word(t, v, *array, *index) {
+            Ok(Memory::Enough) => Ok(Effect::Next),
+            Ok(Memory::Short) => Err(AllocError),
+            Err(kind) => Ok(Effect::Trap(kind)),
+        },
         Op::Store {
             item,
             offset,

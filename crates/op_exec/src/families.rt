@@ -69,7 +69,7 @@ fn family_for(op: &Op<u32>) -> Family
 /// jumps. None, and nothing is done, where it asks more.
 ///
 /// The place in the code stays. A trap leaves the frame, and so does want of memory.
-#[inline]
+#[inline(always)]
 #[tactic(auto, unfolding(crate::specs::Does::does, crate::specs::Does::stack_does, crate::specs::Does::register_does, crate::specs::Does::arithmetic_does, crate::specs::Does::comparison_does, crate::specs::Does::effect_does))]
 pub fn exec_local<V: Values>(op: &Op<u32>, t: &mut Frame, v: &V) -> Option<Local>
     requires { IsExecutable (V.words_of v.now) op.now }
@@ -115,8 +115,11 @@ pub fn exec<V: Values>(op: &Op<u32>, t: &mut Frame, v: &V) -> Result<Effect, All
     ensures done { IfOk result (λ effect. does op.now t.old (V.words_of v.now) ≡ (t.new, effect)) }
     ensures unchanged { OnErr result (t.new ≡ t.old) }
 {
-    match exec_local(op, t, v) {
-        Some(local) => effect_of(local),
-        None => effect_row(op, t, v),
+    match family_for(op) {
+        Family::Effect => effect_row(op, t, v),
+        _ => match exec_local(op, t, v) {
+            Some(local) => effect_of(local),
+            None => unreachable!(),
+        },
     }
 }
