@@ -79,8 +79,7 @@ pub fn eval_strong(gate: &Gate, width: u8, ports: &[Option<Vec4>]) -> Vec4
     }
 }
 
-/// The same for each gate. It stands out of line, so that the logic gates pay nothing for it.
-#[inline(never)]
+/// The same for each gate.
 fn eval_other(gate: &Gate, width: u8, ports: &[Option<Vec4>]) -> Vec4
     requires evaluable { IsEvaluable gate.now width 6 6 (widths ports.now) }
     requires strong { IsTrue (keeps_strong gate.now 6 6) }

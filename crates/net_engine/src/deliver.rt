@@ -17,6 +17,7 @@ use sym_link::ItemKind;
 use vvp_threads::Threads;
 
 // An item is to be evaluated at once, unless it is to be already.
+#[inline(always)]
 fn ask_eval<A: Agenda>(marks: &mut [bool], item: u32, agenda: &mut A)
     requires there { item < length marks.old }
     requires room { slice_index_or marks.old item false ≡ false → 0 < (A.schedule agenda.old).spare }
@@ -72,6 +73,7 @@ pub(crate) fn trigger<F: Fanout + Drop, A: Agenda>(
 }
 
 // What an item does when one of its inputs changes from one seen value to another.
+#[inline(always)]
 fn reach<F: Fanout + Drop, A: Agenda>(
     design: &Design<F>,
     marks: &mut [bool],
@@ -99,6 +101,7 @@ fn reach<F: Fanout + Drop, A: Agenda>(
 }
 
 // A change of an item reaches the inputs that it drives, in their order.
+#[inline(always)]
 fn deliver<F: Fanout + Drop, A: Agenda>(
     design: &Design<F>,
     marks: &mut [bool],

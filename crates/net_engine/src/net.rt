@@ -217,6 +217,7 @@ impl<F: Fanout + Drop> Net<F> {
     }
 
     // A value is laid over a variable, from a place up.
+    #[inline(always)]
     fn assign<A: Agenda>(
         &mut self,
         item: u32,
@@ -258,6 +259,7 @@ impl<F: Fanout + Drop> Net<F> {
 
     /// Lays a value over a variable, word 0, or over a word of an array, from the place `offset` up; what lies outside is
     /// dropped. What reads a variable follows, but not where a variable is driven as before.
+    #[inline(always)]
     pub fn write<A: Agenda>(
         &mut self,
         item: u32,
@@ -312,7 +314,7 @@ impl<F: Fanout + Drop> Net<F> {
     }
 
     // The same for a gate of one input.
-    #[inline(never)]
+    #[inline(always)]
     fn eval_single<A: Agenda>(
         &mut self,
         item: u32,

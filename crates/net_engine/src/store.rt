@@ -188,6 +188,7 @@ fn show(plane: &mut Plane, item: u32, old: Vec8, new: Vec8, change: &mut Change)
 
 // An item that shows its bits, driven strongly, is to show these: puts them into the plane. Whether they are others, and
 // then how it is seen.
+#[inline(always)]
 fn show_bits(plane: &mut Plane, item: u32, bits: Vec4, change: &mut Change) -> bool
     requires there { item < length plane.old }
     requires width { length bits ≡ length (slice_index_or plane.old item []) }
@@ -373,6 +374,7 @@ impl Store {
 
     /// Drives an item with bits, as a variable drives them. Where the plane alone has its value, two vectors are compared.
     /// Whether its levels changed; `change` says then how it is seen.
+    #[inline(always)]
     pub(crate) fn drive_bits(&mut self, item: u32, bits: Vec4, change: &mut Change) -> bool
         requires there { 1 ≤ length (driven_of self.old.values item) }
         requires width { length bits ≡ length (driven_of self.old.values item) }

@@ -209,6 +209,7 @@ impl<A: Agenda + Drop, F: Fanout + Drop> Engine<A, F> {
     /// was running, so are the time and all that is pending: no opcode that wants memory, such as a fork or a nonblocking
     /// assignment, has written a value or put a due. Where none was, dues of the present time may have gone on to the active
     /// region, the next time may have been reached, and the due whose evaluation wanted memory is no longer pending.
+    #[inline(always)]
     pub fn step(&mut self) -> Result<Option<Ending>, AllocError>
         requires { self.old.machine.steps < 3 * 2 ^ 62 }
         ensures ok { OnOk result (EngineFollows (step self.old.program self.old.order) self.old self.new) }

@@ -132,9 +132,8 @@ impl<A: Agenda + Drop, F: Fanout + Drop> Engine<A, F> {
         self.do_next()
     }
 
-    // Does the running thread's next opcode, and what its effect says, of a step that has begun. It stands out of line, so that a
-    // step without a running thread pays nothing for it.
-    #[inline(never)]
+    // Does the running thread's next opcode, and what its effect says, of a step that has begun.
+    #[inline(always)]
     fn do_next(&mut self) -> Result<(), AllocError>
         requires at { (old : Shown) × (serial : ℕ) × (thread : Thread) × Begun old self.old serial thread }
         ensures ok { OnOk result ((old : Shown) (serial : ℕ) (thread : Thread) → Begun old self.old serial thread → ShownSteps (proceed old.program serial) old self.new) }

@@ -109,8 +109,8 @@ impl<A: Agenda + Drop, F: Fanout + Drop> Engine<A, F> {
         self.run_far(most)
     }
 
-    // The same where a thread runs. It stands out of line, so that a step without one pays nothing for it.
-    #[inline(never)]
+    // The same where a thread runs.
+    #[inline(always)]
     fn run_far(&mut self, most: u32) -> u32
         requires going { is_going self.old ≡ true }
         requires at { (serial : ℕ) × (thread : Thread) × Runs self.old serial thread }

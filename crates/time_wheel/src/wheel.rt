@@ -92,6 +92,7 @@ impl Agenda for Wheel {
         self.pool.reserve(n)
     }
 
+    #[inline(always)]
     fn put(&mut self, due: Due) {
         let time = due.time;
         let queue = queue_for(due.region, self.now, time);
